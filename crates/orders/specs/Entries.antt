@@ -1,19 +1,17 @@
 -- An entry is what a member has in a kind: nothing, a bid or an ask of 1 to 10,000,000 cents. In memory and in files it
 -- is one number: 0 for nothing, 2^24 + cents for a bid, 2 × 2^24 + cents for an ask. A kind's row of entries has one for
 -- each member; a number that stands for no entry is read there as nothing.
-use mathlib.Core.Bool.{Bool, true, false, _&&_, cond}
+use mathlib.Core.Bool.{_&&_, cond}
 use mathlib.Core.List.{List, [], _∷_, map}
 use Prim.Native.Nat.{ℕ, _+_, _-_}
 use lib.Dec.{ltb, leb, eqb}
 use Rattle.std.specs.Options.{valueOr}
 use Rattle.std.specs.declared.option.Option.{Option}
 use Rattle.std.specs.declared.option.Option.the-variants.{Some, None}
+use Rattle.orders.specs.Range.{in-range}
 use Rattle.orders.specs.declared.money.Cents.{Cents}
 use Rattle.orders.specs.declared.entry.Entry.{Entry}
 use Rattle.orders.specs.declared.entry.Entry.the-variants.{Nothing, Bid, Ask}
-
-abbrev pub in-range : ℕ → Bool
-in-range c = leb 1 c && leb c 10000000
 
 abbrev pub encoded : Entry → Option ℕ
 encoded Nothing = Some 0
@@ -31,3 +29,9 @@ entry-of n = valueOr (decoded n) Nothing
 
 abbrev pub row-of : List ℕ → List Entry
 row-of ns = map entry-of ns
+
+-- what an entry bids, in cents
+abbrev pub bid-in : Entry → ℕ
+bid-in Nothing = 0
+bid-in (Bid c) = c .0
+bid-in (Ask c) = 0

@@ -1,15 +1,12 @@
 // What a member has in a kind: nothing, a bid or an ask.
 ghost use mathlib.Core.Path.{_≡_};
-ghost use Rattle.orders.specs.Entries.{encoded, decoded};
+ghost use Rattle.orders.specs.Entries.{encoded, decoded, entry-of, bid-in};
 use crate::money::Cents;
 use crate::money::CentsDebug;
 use crate::money::CentsPartialEq;
 
 // The sort of an entry stands above its cents.
 const SORT: u32 = 0x100_0000;
-
-// The most that a bid or an ask may be.
-const MOST: u32 = 10_000_000;
 
 #[derive(Clone, Copy, PartialEq, Debug)]
 pub enum Entry {
@@ -25,18 +22,9 @@ impl Entry {
     {
         match self {
             Entry::Nothing => Some(0),
-            Entry::Bid(Cents(c)) => {
-                if c < 1 || c > MOST {
-                    return None;
-                }
-                Some(SORT + c)
-            }
-            Entry::Ask(Cents(c)) => {
-                if c < 1 || c > MOST {
-                    return None;
-                }
-                Some(2 * SORT + c)
-            }
+            Entry::Bid(c) if c.in_range() => Some(SORT + c.0),
+            Entry::Ask(c) if c.in_range() => Some(2 * SORT + c.0),
+            Entry::Bid(_) | Entry::Ask(_) => None,
         }
     }
 
@@ -47,12 +35,29 @@ impl Entry {
         if code == 0 {
             return Some(Entry::Nothing);
         }
-        if SORT < code && code <= SORT + MOST {
+        if SORT < code && code <= SORT + Cents::MOST {
             return Some(Entry::Bid(Cents(code - SORT)));
         }
-        if 2 * SORT < code && code <= 2 * SORT + MOST {
+        if 2 * SORT < code && code <= 2 * SORT + Cents::MOST {
             return Some(Entry::Ask(Cents(code - 2 * SORT)));
         }
         None
+    }
+
+    // The entry that a number in a row stands for; a number that stands for no entry is read as nothing.
+    pub fn standing(code: u32) -> Entry
+        ensures { λ r. ⌜ r ≡ entry-of code ⌝ }
+    {
+        Entry::decode(code).unwrap_or(Entry::Nothing)
+    }
+
+    // What the entry bids, in cents.
+    pub fn bid(self) -> u32
+        ensures { λ r. ⌜ r ≡ bid-in self ⌝ }
+    {
+        match self {
+            Entry::Bid(Cents(c)) => c,
+            Entry::Nothing | Entry::Ask(_) => 0,
+        }
     }
 }

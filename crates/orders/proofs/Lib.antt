@@ -1,0 +1,4 @@
+pub mod Accounts
+pub mod Rows
+pub mod Rulings
+pub mod Sums

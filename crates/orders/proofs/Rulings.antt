@@ -1,0 +1,70 @@
+-- What an order that a message is judged to be says of the message.
+use mathlib.Core.Path.{_≡_, refl, sym, _∙_, ap}
+use mathlib.Core.Bool.{Bool, true, false, cond}
+use Prim.Native.Nat.{ℕ, _*_, _<_}
+use native.Mathlib.Omega.{arith}
+use lib.Dec.{ltb, leb}
+use Rattle.std.proofs.shelf.Tests.{ltb-true}
+use Rattle.std.specs.declared.result.Result.{Result}
+use Rattle.std.specs.declared.result.Result.the-variants.{Ok, Err}
+use Rattle.orders.specs.declared.entry.Entry.{Entry}
+use Rattle.orders.specs.declared.entry.Entry.the-variants.{Nothing, Bid, Ask}
+use Rattle.orders.specs.declared.message.Message.{Message}
+use Rattle.orders.specs.declared.order.Order.{Order}
+use Rattle.orders.specs.declared.refusal.Refusal.{Refusal}
+use Rattle.orders.specs.declared.refusal.Refusal.the-variants.{NoMember, OldNumber, NoKind, Uncovered, Full, Unbacked}
+use Rattle.orders.specs.Taking.{Position, bids, with-entry, asked, allowed, and-then, order-of, entering, ruling-at, ruling}
+
+pub err-is-not-ok : {A : Type 0} (e : Refusal) (x : A) → _≡_ {A = Result A Refusal} (Err e) (Ok x) → ⊥
+err-is-not-ok e x h = let z : _≡_ {A = ℕ} 0 1 = cc in omega arith
+
+pub ok-cond : {A : Type 0} (t : Bool) (r : Result A Refusal) (e : Refusal) (x : A) → cond t r (Err e) ≡ Ok x → (t ≡ true) × (r ≡ Ok x)
+ok-cond true r e x h = (refl, h)
+ok-cond false r e x h = absurd (err-is-not-ok e x h)
+
+pub ok-and-then : {A B : Type 0} (r : Result A Refusal) (f : A → Result B Refusal) (y : B) → and-then r f ≡ Ok y → (x : A) × (r ≡ Ok x) × (f x ≡ Ok y)
+ok-and-then (Ok x) f y h = (x, refl, h)
+ok-and-then (Err e) f y h = absurd (err-is-not-ok e y h)
+
+-- an order stands behind each test of the rule
+pub record Ordered (K M : ℕ) (P : ℕ → Position) (m : Message) (o : Order) : Type 0 where
+  pub member : m .member < M
+  pub newer : P (m .member) .last < m .number
+  pub kind : m .kind < K
+  pub entry : Entry
+  pub asks : asked (m .sort) (m .cents) ≡ Ok entry
+  pub allows : allowed K (P (m .member)) (m .kind) entry ≡ Ok entry
+  pub same : o ≡ order-of m entry
+
+allowed-same : (K : ℕ) (p : Position) (k : ℕ) (e a : Entry) → allowed K p k e ≡ Ok a → a ≡ e
+allowed-same K p k Nothing a h = cc
+allowed-same K p k (Bid c) a h =
+    let b = ok-cond (leb (2 * bids (with-entry (p .entry) k (Bid c)) K) (p .account)) (cond (ltb (p .berths k) 255) (Ok (Bid c)) (Err Full)) Uncovered a h in
+    let d = ok-cond (ltb (p .berths k) 255) (Ok (Bid c)) Full a (b .1) in
+    let q = d .1 in cc
+allowed-same K p k (Ask c) a h = let b = ok-cond (ltb 0 (p .berths k)) (Ok (Ask c)) Unbacked a h in let q = b .1 in cc
+
+pub ordered : (K M : ℕ) (P : ℕ → Position) (m : Message) (o : Order) → ruling K M P m ≡ Ok o → Ordered K M P m o
+ordered K M P m o h =
+    let p = P (m .member) in
+    let a = ok-cond (ltb (m .member) M) (ruling-at K p m) NoMember o h in
+    let b = ok-cond (ltb (p .last) (m .number)) (cond (ltb (m .kind) K) (entering K p m) (Err NoKind)) OldNumber o (a .1) in
+    let d = ok-cond (ltb (m .kind) K) (entering K p m) NoKind o (b .1) in
+    let e = ok-and-then (asked (m .sort) (m .cents)) (λ e. and-then (allowed K p (m .kind) e) (λ a. Ok (order-of m a))) o (d .1) in
+    let g = ok-and-then (allowed K p (m .kind) (e .0)) (λ a. Ok (order-of m a)) o (e .2) in
+    let is : g .0 ≡ e .0 = allowed-same K p (m .kind) (e .0) (g .0) (g .1) in
+    let last = g .2 in
+    record {
+      member = ltb-true (m .member) M (a .0);
+      newer = ltb-true (p .last) (m .number) (b .0);
+      kind = ltb-true (m .kind) K (d .0);
+      entry = e .0;
+      asks = e .1;
+      allows = g .1 ∙ ap (λ (x : Entry). Ok x) is;
+      same = cc;
+    }
+
+pub order-within : (K M : ℕ) (P : ℕ → Position) (m : Message) (o : Order) → ruling K M P m ≡ Ok o → (o .member .0 < M) × (o .kind .0 < K)
+order-within K M P m o h =
+    let r = ordered K M P m o h in
+    (omega (arith, r .member, ap (λ (q : Order). q .member .0) (r .same)), omega (arith, r .kind, ap (λ (q : Order). q .kind .0) (r .same)))

@@ -1,0 +1,18 @@
+// A message that may be taken: its member and kind exist, and its entry is allowed.
+use crate::entry::Entry;
+
+// A member of the evening.
+#[derive(Clone, Copy)]
+pub struct Member(pub u16);
+
+// A kind of berth of the evening.
+#[derive(Clone, Copy)]
+pub struct Kind(pub u8);
+
+#[derive(Clone, Copy)]
+pub struct Order {
+    pub member: Member,
+    pub number: u32,
+    pub kind: Kind,
+    pub entry: Entry,
+}
