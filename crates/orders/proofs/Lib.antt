@@ -1,4 +1,5 @@
 pub mod Accounts
 pub mod Rows
+pub mod Runs
 pub mod Rulings
 pub mod Sums

@@ -6,3 +6,4 @@ pub mod Messages
 pub mod Taking
 pub mod Lent
 pub mod Opening
+pub mod Running

@@ -7,6 +7,7 @@ mod money;
 mod opening;
 mod order;
 mod refusal;
+mod running;
 mod taking;
 
 pub use books::Books;

@@ -9,7 +9,7 @@ ghost use Rattle.orders.specs.Taking.{bids, with-entry, allowed, ruling};
 ghost use Rattle.std.specs.Options.{valueOr};
 ghost use Rattle.std.specs.declared.result.Result.the-variants.{Ok, Err};
 ghost use Rattle.orders.specs.Entries.{encoded};
-ghost use Rattle.orders.specs.Lent.{held, lacking, entry-at, position, Fits, judged, entries-after, numbers-after, answer, SameLoans};
+ghost use Rattle.orders.specs.Lent.{held, lacking, entry-at, position, Fits, judged, entries-after, numbers-after, answer, held-after, SameLoans};
 use crate::books::Books;
 use crate::entry::Entry;
 use crate::evening::Closed;
@@ -184,19 +184,26 @@ impl Open {
     }
 
     // Takes a message or refuses it. What is refused changes nothing.
-    pub fn take(self, books: &mut Books, message: &[u8]) -> (Open, Result<(), Refusal>)
-        ensures open { λ r. ⌜ r .0 ≡ self ⌝ }
-        ensures answer { λ r. ⌜ r .1 ≡ answer (judged (self .kinds) (self .members) (held (now (books .entry))) (now (message .entry))) ⌝ }
-        ensures entries { λ r. ⌜ now (now (books .exit) .entries) ≡ entries-after (self .members) (now (now (books .entry) .entries)) (judged (self .kinds) (self .members) (held (now (books .entry))) (now (message .entry))) ⌝ }
-        ensures numbers { λ r. ⌜ now (now (books .exit) .numbers) ≡ numbers-after (now (now (books .entry) .numbers)) (judged (self .kinds) (self .members) (held (now (books .entry))) (now (message .entry))) ⌝ }
-        ensures accounts { λ _. ⌜ now (now (books .exit) .accounts) ≡ now (now (books .entry) .accounts) ⌝ }
-        ensures berths { λ _. ⌜ now (now (books .exit) .berths) ≡ now (now (books .entry) .berths) ⌝ }
+    pub(crate) fn hear(&self, books: &mut Books, message: &[u8]) -> Result<(), Refusal>
+        ensures answer { λ r. ⌜ r ≡ answer (judged (now (self .entry) .kinds) (now (self .entry) .members) (held (now (books .entry))) (now (message .entry))) ⌝ }
+        ensures after { λ _. ⌜ held (now (books .exit)) ≡ held-after (now (self .entry) .kinds) (now (self .entry) .members) (held (now (books .entry))) (now (message .entry)) ⌝ }
         ensures lent { λ _. ⌜ SameLoans (now (books .entry)) (now (books .exit)) ⌝ }
     {
         match self.enter(books, message) {
-            Ok(_) => (self, Ok(())),
-            Err(refusal) => (self, Err(refusal)),
+            Ok(_) => Ok(()),
+            Err(refusal) => Err(refusal),
         }
+    }
+
+    // Takes a message or refuses it, and hands the evening on.
+    pub fn take(self, books: &mut Books, message: &[u8]) -> (Open, Result<(), Refusal>)
+        ensures open { λ r. ⌜ r .0 ≡ self ⌝ }
+        ensures answer { λ r. ⌜ r .1 ≡ answer (judged (self .kinds) (self .members) (held (now (books .entry))) (now (message .entry))) ⌝ }
+        ensures after { λ _. ⌜ held (now (books .exit)) ≡ held-after (self .kinds) (self .members) (held (now (books .entry))) (now (message .entry)) ⌝ }
+        ensures lent { λ _. ⌜ SameLoans (now (books .entry)) (now (books .exit)) ⌝ }
+    {
+        let answer = self.hear(books, message);
+        (self, answer)
     }
 }
 
