@@ -1,5 +1,12 @@
 pub mod Accounts
+pub mod Alone
+pub mod Codes
+pub mod Dues
+pub mod Ends
+pub mod Openings
+pub mod Positions
 pub mod Rows
 pub mod Runs
 pub mod Rulings
+pub mod Soundness
 pub mod Sums

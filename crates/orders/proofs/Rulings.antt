@@ -1,10 +1,16 @@
 -- What an order that a message is judged to be says of the message.
 use mathlib.Core.Path.{_≡_, refl, sym, _∙_, ap}
 use mathlib.Core.Bool.{Bool, true, false, cond}
-use Prim.Native.Nat.{ℕ, _*_, _<_}
+use Prim.Native.Nat.{ℕ, _+_, _*_, _<_}
 use native.Mathlib.Omega.{arith}
-use lib.Dec.{ltb, leb}
-use Rattle.std.proofs.shelf.Tests.{ltb-true}
+use lib.Dec.{ltb, leb, eqb}
+use mathlib.Core.Logic.{⊎-elim}
+use Rattle.std.proofs.shelf.Tests.{ltb-true, eqb-true}
+use Rattle.std.specs.Options.{valueOr}
+use Rattle.std.specs.declared.option.Option.{Option}
+use Rattle.orders.specs.Range.{in-range}
+use Rattle.orders.specs.Entries.{encoded, entry-of}
+use Rattle.orders.proofs.Codes.{either-cond, encode-decode}
 use Rattle.std.specs.declared.result.Result.{Result}
 use Rattle.std.specs.declared.result.Result.the-variants.{Ok, Err}
 use Rattle.orders.specs.declared.entry.Entry.{Entry}
@@ -12,7 +18,7 @@ use Rattle.orders.specs.declared.entry.Entry.the-variants.{Nothing, Bid, Ask}
 use Rattle.orders.specs.declared.message.Message.{Message}
 use Rattle.orders.specs.declared.order.Order.{Order}
 use Rattle.orders.specs.declared.refusal.Refusal.{Refusal}
-use Rattle.orders.specs.declared.refusal.Refusal.the-variants.{NoMember, OldNumber, NoKind, Uncovered, Full, Unbacked}
+use Rattle.orders.specs.declared.refusal.Refusal.the-variants.{NoMember, OldNumber, NoKind, NoSort, OutOfRange, Uncovered, Full, Unbacked}
 use Rattle.orders.specs.Taking.{Position, bids, with-entry, asked, allowed, and-then, order-of, entering, ruling-at, ruling}
 
 pub err-is-not-ok : {A : Type 0} (e : Refusal) (x : A) → _≡_ {A = Result A Refusal} (Err e) (Ok x) → ⊥
@@ -25,6 +31,51 @@ ok-cond false r e x h = absurd (err-is-not-ok e x h)
 pub ok-and-then : {A B : Type 0} (r : Result A Refusal) (f : A → Result B Refusal) (y : B) → and-then r f ≡ Ok y → (x : A) × (r ≡ Ok x) × (f x ≡ Ok y)
 ok-and-then (Ok x) f y h = (x, refl, h)
 ok-and-then (Err e) f y h = absurd (err-is-not-ok e y h)
+
+-- what a sort and cents ask for
+pub data Asks (sort cents : ℕ) (e : Entry) : Type 0 where
+  for-nothing : sort ≡ 0 → cents ≡ 0 → e ≡ Nothing → Asks sort cents e
+  for-bid : sort ≡ 1 → in-range cents ≡ true → e ≡ Bid (record { 0 = cents }) → Asks sort cents e
+  for-ask : sort ≡ 2 → in-range cents ≡ true → e ≡ Ask (record { 0 = cents }) → Asks sort cents e
+
+ok-same : {A : Type 0} (x y : A) → _≡_ {A = Result A Refusal} (Ok x) (Ok y) → y ≡ x
+ok-same x y h = cc
+
+pub asks-for : (sort cents : ℕ) (e : Entry) → asked sort cents ≡ Ok e → Asks sort cents e
+asks-for sort cents e h = ⊎-elim zeroth (λ p. ⊎-elim first (λ q. second (q .1)) (either-cond (eqb sort 1) bid ask (Ok e) (p .1))) (either-cond (eqb sort 0) nothing bid-or-ask (Ok e) h)
+  where
+    nothing : Result Entry Refusal
+    nothing = cond (eqb cents 0) (Ok Nothing) (Err OutOfRange)
+
+    bid : Result Entry Refusal
+    bid = cond (in-range cents) (Ok (Bid (record { 0 = cents }))) (Err OutOfRange)
+
+    ask-entry : Result Entry Refusal
+    ask-entry = cond (in-range cents) (Ok (Ask (record { 0 = cents }))) (Err OutOfRange)
+
+    ask : Result Entry Refusal
+    ask = cond (eqb sort 2) ask-entry (Err NoSort)
+
+    bid-or-ask : Result Entry Refusal
+    bid-or-ask = cond (eqb sort 1) bid ask
+
+    zeroth : (eqb sort 0 ≡ true) × (nothing ≡ Ok e) → Asks sort cents e
+    zeroth p = let q = ok-cond (eqb cents 0) (Ok Nothing) OutOfRange e (p .1) in for-nothing (eqb-true sort 0 (p .0)) (eqb-true cents 0 (q .0)) (ok-same Nothing e (q .1))
+
+    first : (eqb sort 1 ≡ true) × (bid ≡ Ok e) → Asks sort cents e
+    first p = let q = ok-cond (in-range cents) (Ok (Bid (record { 0 = cents }))) OutOfRange e (p .1) in for-bid (eqb-true sort 1 (p .0)) (q .0) (ok-same (Bid (record { 0 = cents })) e (q .1))
+
+    second : ask ≡ Ok e → Asks sort cents e
+    second p =
+        let q = ok-cond (eqb sort 2) ask-entry NoSort e p in
+        let r = ok-cond (in-range cents) (Ok (Ask (record { 0 = cents }))) OutOfRange e (q .1) in
+        for-ask (eqb-true sort 2 (q .0)) (r .0) (ok-same (Ask (record { 0 = cents })) e (r .1))
+
+-- an entry that is asked for is read again as it was written
+pub coded : (sort cents : ℕ) (e : Entry) → Asks sort cents e → entry-of (valueOr (encoded e) 0) ≡ e
+coded sort cents e (for-nothing s c p) = rw p
+coded sort cents e (for-bid s c p) = rw (p, c) (ap (λ (o : Option Entry). valueOr o Nothing) (encode-decode (Bid (record { 0 = cents })) (16777216 + cents) (rw c)))
+coded sort cents e (for-ask s c p) = rw (p, c) (ap (λ (o : Option Entry). valueOr o Nothing) (encode-decode (Ask (record { 0 = cents })) (33554432 + cents) (rw c)))
 
 -- an order stands behind each test of the rule
 pub record Ordered (K M : ℕ) (P : ℕ → Position) (m : Message) (o : Order) : Type 0 where

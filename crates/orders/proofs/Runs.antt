@@ -22,9 +22,11 @@ take-min : (xs : List ℕ) (s : ℕ) → s ≡ min (length xs) 12 → (take s xs
 take-min xs s e = ⊎-elim short long (cases-lt (length xs) 12)
   where
     short : length xs < 12 → (take s xs ≡ take 12 xs) × (drop s xs ≡ drop 12 xs)
-    short h =
-        ( take-all s xs (omega arith) ∙ sym (take-all 12 xs (omega arith))
-        , drop-all s xs (omega arith) ∙ sym (drop-all 12 xs (omega arith)) )
+    short h = (
+      take-all s xs (omega arith) ∙ sym (take-all 12 xs (omega arith)),
+      drop-all s xs (omega arith) ∙ sym (drop-all 12 xs (omega arith)),
+    )
+
     long : 12 ≤ length xs → (take s xs ≡ take 12 xs) × (drop s xs ≡ drop 12 xs)
     long h = let f : s ≡ 12 = omega arith in (ap (λ (n : ℕ). take n xs) f, ap (λ (n : ℕ). drop n xs) f)
 
@@ -54,11 +56,12 @@ answers-next K M h h′ m ms a e f = ap (λ (x : Held). a ∷ answers-to K M x m
 
 pub same-loans : (a b c : Books) → SameLoans a b → SameLoans b c → SameLoans a c
 same-loans a b c p q =
-    record
-      { entries = q .entries ∙ p .entries
-      ; numbers = q .numbers ∙ p .numbers
-      ; accounts = q .accounts ∙ p .accounts
-      ; berths = q .berths ∙ p .berths }
+    record {
+      entries = q .entries ∙ p .entries;
+      numbers = q .numbers ∙ p .numbers;
+      accounts = q .accounts ∙ p .accounts;
+      berths = q .berths ∙ p .berths;
+    }
 
 -- What is left leads to the same end as the whole: of the messages in `bytes`, begun with h₀ in memory and ys for answers,
 -- i are answered; then h is in memory, `rest` is left, and the answers are xs.
@@ -77,21 +80,23 @@ module _ (K M : ℕ) (h₀ h : Held) (bytes rest : List ℕ) (ys xs : List Answe
   leads-more h′ s m after a l n e em ea aa eh =
       let left = messages (length ys - (i + 1)) after in
       let next : messages (length ys - i) rest ≡ m ∷ left = messages-more (length ys) i s rest l n e ∙ rw (em, ea) in
-      record
-        { memory = run-next K M h h′ m left eh ∙ ap (run K M h) (sym next) ∙ was .memory
-        ; answered =
-          ap (λ (z : List Answer). z ++ answers-to K M h′ left) (take-more-set xs i a (omega arith))
+      record {
+        memory = run-next K M h h′ m left eh ∙ ap (run K M h) (sym next) ∙ was .memory;
+        answered =
+            ap (λ (z : List Answer). z ++ answers-to K M h′ left) (take-more-set xs i a (omega arith))
             ∙ append-assoc (take i xs) (a ∷ []) (answers-to K M h′ left)
             ∙ ap (λ (z : List Answer). take i xs ++ z) (answers-next K M h h′ m left a eh aa ∙ ap (answers-to K M h) (sym next))
-            ∙ was .answered
-        ; open-answers =
-          drop-set-lt (i + 1) xs i a (omega arith) ∙ sym (drop-drop 1 i xs) ∙ ap (drop 1) (was .open-answers) ∙ drop-drop 1 i ys }
+            ∙ was .answered;
+        open-answers =
+            drop-set-lt (i + 1) xs i a (omega arith) ∙ sym (drop-drop 1 i xs) ∙ ap (drop 1) (was .open-answers) ∙ drop-drop 1 i ys;
+      }
 
   pub leads-all : i ≤ length ys → messages (length ys - i) rest ≡ [] → (h ≡ run K M h₀ (messages (length ys) bytes)) × (xs ≡ written-over (answers-to K M h₀ (messages (length ys) bytes)) ys)
   unfolding run answers-to
   leads-all l e =
       let all = answers-to K M h₀ (messages (length ys) bytes) in
       let front : take i xs ≡ all = sym (append-nil (take i xs)) ∙ ap (λ (ms : List (List ℕ)). take i xs ++ answers-to K M h ms) (sym e) ∙ was .answered in
-      let long : length all ≡ i = ap length (sym front) ∙ length-take-le i xs (omega arith) in
-      ( ap (run K M h) (sym e) ∙ was .memory
-      , sym (take-append-drop i xs) ∙ ap (λ (z : List Answer). z ++ drop i xs) front ∙ ap (λ (z : List Answer). all ++ z) (was .open-answers ∙ ap (λ (k : ℕ). drop k ys) (sym long)) )
+      let long : length all ≡ i = ap length (sym front) ∙ length-take-le i xs (omega arith) in (
+        ap (run K M h) (sym e) ∙ was .memory,
+        sym (take-append-drop i xs) ∙ ap (λ (z : List Answer). z ++ drop i xs) front ∙ ap (λ (z : List Answer). all ++ z) (was .open-answers ∙ ap (λ (k : ℕ). drop k ys) (sym long)),
+      )

@@ -87,11 +87,12 @@ numbers-after numbers (Err e) = numbers
 -- what is in memory after a message
 abbrev pub held-after : ℕ → ℕ → Held → List ℕ → Held
 held-after K M h m =
-    record
-      { entries = entries-after M (h .entries) (judged K M h m)
-      ; numbers = numbers-after (h .numbers) (judged K M h m)
-      ; accounts = h .accounts
-      ; berths = h .berths }
+    record {
+      entries = entries-after M (h .entries) (judged K M h m);
+      numbers = numbers-after (h .numbers) (judged K M h m);
+      accounts = h .accounts;
+      berths = h .berths;
+    }
 
 abbrev pub answer : {A : Type 0} → Result A Refusal → Result (Unit {0}) Refusal
 answer (Ok x) = Ok tt

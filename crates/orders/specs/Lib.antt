@@ -7,3 +7,5 @@ pub mod Taking
 pub mod Lent
 pub mod Opening
 pub mod Running
+pub mod Members
+pub mod Statements

@@ -1,6 +1,8 @@
 // What a member has in a kind: nothing, a bid or an ask.
 ghost use mathlib.Core.Path.{_≡_};
 ghost use Rattle.orders.specs.Entries.{encoded, decoded, entry-of, bid-in};
+ghost use Rattle.std.specs.Slices.{found};
+ghost use Rattle.std.specs.declared.option.Option.the-variants.{Some};
 use crate::money::Cents;
 use crate::money::CentsDebug;
 use crate::money::CentsPartialEq;
@@ -18,7 +20,8 @@ pub enum Entry {
 impl Entry {
     // The entry as one number, sort × 2^24 + cents; none where the cents are out of range.
     pub fn encode(self) -> Option<u32>
-        ensures { λ r. ⌜ r ≡ encoded self ⌝ }
+        ensures value { λ r. ⌜ r ≡ encoded self ⌝ }
+        ensures back { λ r. ⌜ found r (λ code. decoded code ≡ Some self) ⌝ }
     {
         match self {
             Entry::Nothing => Some(0),
@@ -30,7 +33,8 @@ impl Entry {
 
     // The entry that a number stands for; none where it stands for no entry.
     pub fn decode(code: u32) -> Option<Entry>
-        ensures { λ r. ⌜ r ≡ decoded code ⌝ }
+        ensures value { λ r. ⌜ r ≡ decoded code ⌝ }
+        ensures back { λ r. ⌜ found r (λ entry. encoded entry ≡ Some code) ⌝ }
     {
         if code == 0 {
             return Some(Entry::Nothing);

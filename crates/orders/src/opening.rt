@@ -6,7 +6,8 @@ ghost use lib.ListN.{length, take, drop, replicate};
 ghost use Rattle.std.specs.Results.{errPart};
 ghost use Rattle.std.specs.Vec.{made};
 ghost use Rattle.std.specs.declared.option.Option.the-variants.{Some, None};
-ghost use Rattle.orders.specs.Lent.{held, SameLoans};
+ghost use Rattle.orders.specs.Lent.{held, Fits, SameLoans};
+ghost use Rattle.orders.specs.Statements.{All-sound};
 ghost use Rattle.orders.specs.Opening.{first-over, opening, emptied};
 use crate::books::Books;
 use crate::evening::Open;
@@ -85,6 +86,8 @@ impl Open {
         ensures accounts { λ _. ⌜ now (now (books .exit) .accounts) ≡ now (now (books .entry) .accounts) ⌝ }
         ensures berths { λ _. ⌜ now (now (books .exit) .berths) ≡ now (now (books .entry) .berths) ⌝ }
         ensures lent { λ _. ⌜ SameLoans (now (books .entry)) (now (books .exit)) ⌝ }
+        ensures fits { λ r. ⌜ made r (λ _. Fits kinds members (held (now (books .exit)))) ⌝ }
+        ensures sound { λ r. ⌜ made r (λ _. All-sound kinds members (held (now (books .exit)))) ⌝ }
     {
         let open = Open::admit(kinds, members, fund, books)?;
         let count = usize::from(members);

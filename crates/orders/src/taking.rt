@@ -8,7 +8,9 @@ ghost use Rattle.std.specs.declared.option.Option.the-variants.{Some, None};
 ghost use Rattle.orders.specs.Taking.{bids, with-entry, allowed, ruling};
 ghost use Rattle.std.specs.Options.{valueOr};
 ghost use Rattle.std.specs.declared.result.Result.the-variants.{Ok, Err};
+ghost use Rattle.std.specs.Results.{isOk};
 ghost use Rattle.orders.specs.Entries.{encoded};
+ghost use Rattle.orders.specs.Statements.{Taken-when-due};
 ghost use Rattle.orders.specs.Lent.{held, lacking, entry-at, position, Fits, judged, entries-after, numbers-after, answer, held-after, SameLoans};
 use crate::books::Books;
 use crate::entry::Entry;
@@ -201,6 +203,7 @@ impl Open {
         ensures answer { λ r. ⌜ r .1 ≡ answer (judged (self .kinds) (self .members) (held (now (books .entry))) (now (message .entry))) ⌝ }
         ensures after { λ _. ⌜ held (now (books .exit)) ≡ held-after (self .kinds) (self .members) (held (now (books .entry))) (now (message .entry)) ⌝ }
         ensures lent { λ _. ⌜ SameLoans (now (books .entry)) (now (books .exit)) ⌝ }
+        ensures due { λ r. ⌜ Taken-when-due (self .kinds) (self .members) (held (now (books .entry))) (now (message .entry)) (isOk (r .1)) ⌝ }
     {
         let answer = self.hear(books, message);
         (self, answer)
