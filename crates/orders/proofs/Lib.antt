@@ -1,6 +1,7 @@
 pub mod Accounts
 pub mod Alone
 pub mod Codes
+pub mod Cuts
 pub mod Dues
 pub mod Ends
 pub mod Openings

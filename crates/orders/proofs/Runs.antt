@@ -14,28 +14,17 @@ use Rattle.orders.specs.declared.books.Books.{Books}
 use Rattle.orders.specs.declared.refusal.Refusal.{Refusal}
 use Rattle.orders.specs.Lent.{Held, judged, answer, held-after, SameLoans}
 use Rattle.orders.specs.Running.{messages, run, answers-to, written-over}
+use Rattle.orders.proofs.Cuts.{take-min}
 
 abbrev Answer : Type 0
 Answer = Result (Unit {0}) Refusal
-
-take-min : (xs : List ℕ) (s : ℕ) → s ≡ min (length xs) 12 → (take s xs ≡ take 12 xs) × (drop s xs ≡ drop 12 xs)
-take-min xs s e = ⊎-elim short long (cases-lt (length xs) 12)
-  where
-    short : length xs < 12 → (take s xs ≡ take 12 xs) × (drop s xs ≡ drop 12 xs)
-    short h = (
-      take-all s xs (omega arith) ∙ sym (take-all 12 xs (omega arith)),
-      drop-all s xs (omega arith) ∙ sym (drop-all 12 xs (omega arith)),
-    )
-
-    long : 12 ≤ length xs → (take s xs ≡ take 12 xs) × (drop s xs ≡ drop 12 xs)
-    long h = let f : s ≡ 12 = omega arith in (ap (λ (n : ℕ). take n xs) f, ap (λ (n : ℕ). drop n xs) f)
 
 messages-next : (n : ℕ) (rest : List ℕ) → 0 < length rest → messages (suc n) rest ≡ take 12 rest ∷ messages n (drop 12 rest)
 messages-next n rest h = rw (ne-eqb (length rest) 0 (omega arith))
 
 pub messages-more : (n i s : ℕ) (rest : List ℕ) → i < n → 0 < length rest → s ≡ min (length rest) 12 → messages (n - i) rest ≡ take s rest ∷ messages (n - (i + 1)) (drop s rest)
 messages-more n i s rest h l e =
-    let t = take-min rest s e in
+    let t = take-min rest 12 s e in
     let k : n - i ≡ suc (n - (i + 1)) = omega arith in
     ap (λ (j : ℕ). messages j rest) k ∙ messages-next (n - (i + 1)) rest l ∙ rw (t .0, t .1)
 

@@ -2,6 +2,7 @@ pub mod Range
 pub mod Entries
 pub mod Refusals
 pub mod Words
+pub mod Inputs
 pub mod Messages
 pub mod Taking
 pub mod Lent

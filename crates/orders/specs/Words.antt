@@ -11,3 +11,8 @@ word2 bs i = byte-at bs i + byte-at bs (i + 1) * 256
 
 abbrev pub word4 : List ℕ → ℕ → ℕ
 word4 bs i = byte-at bs i + byte-at bs (i + 1) * 256 + byte-at bs (i + 2) * 65536 + byte-at bs (i + 3) * 16777216
+
+abbrev pub word8 : List ℕ → ℕ → ℕ
+word8 bs i =
+    word4 bs i + byte-at bs (i + 4) * 4294967296 + byte-at bs (i + 5) * 1099511627776 + byte-at bs (i + 6) * 281474976710656
+    + byte-at bs (i + 7) * 72057594037927936

@@ -2,6 +2,7 @@
 mod books;
 mod entry;
 mod evening;
+mod input;
 mod message;
 mod money;
 mod opening;
@@ -14,6 +15,7 @@ pub use books::Books;
 pub use entry::Entry;
 pub use evening::Closed;
 pub use evening::Open;
+pub use input::Input;
 pub use message::Message;
 pub use money::Cents;
 pub use money::HalfCents;
