@@ -1,1 +1,11 @@
+pub mod Critical
+pub mod Matchings
+pub mod OwnNumber
 pub mod Pairing
+pub mod Placing
+pub mod Rows
+pub mod Settling
+pub mod Sides
+pub mod Standing
+pub mod Leftover
+pub mod Theorems

@@ -6,8 +6,15 @@ use orders::HalfCents;
 #[derive(Clone, Copy)]
 pub enum Outcome {
     NoTrade,
-    OnePrice { trades: usize, price: HalfCents },
-    TwoPrices { trades: usize, buyers: HalfCents, sellers: HalfCents },
+    OnePrice {
+        trades: usize,
+        price: HalfCents,
+    },
+    TwoPrices {
+        trades: usize,
+        buyers: HalfCents,
+        sellers: HalfCents,
+    },
 }
 
 impl Outcome {

@@ -2,7 +2,8 @@
 ghost use mathlib.Core.Path.{_≡_};
 ghost use Prim.Native.Nat.{_<_, _≤_};
 ghost use lib.ListN.{length};
-ghost use Rattle.clearing.specs.Rule.{cents-of, at-rank, pairs, middle-at, cleared};
+ghost use Rattle.clearing.specs.Rule.{cents-of, at-rank, pairs, middle-at, outcome-of, cleared};
+ghost use Rattle.clearing.specs.Statements.{Promised-to};
 use crate::outcome::Outcome;
 use orders::Cents;
 use orders::HalfCents;
@@ -25,11 +26,20 @@ pub fn count_pairs(buyers: &[Ranked], sellers: &[Ranked]) -> usize
     count
 }
 
-// The outcome of a kind.
+// The outcome of a kind. Where the two lists are the ranked lists of a row of entries, it keeps what the members of the
+// row were promised.
 pub fn clear(buyers: &[Ranked], sellers: &[Ranked]) -> Outcome
-    ensures { λ r. ⌜ r ≡ cleared (cents-of (now (buyers .entry))) (cents-of (now (sellers .entry))) ⌝ }
+    ensures rule { λ r. ⌜ r ≡ cleared (cents-of (now (buyers .entry))) (cents-of (now (sellers .entry))) ⌝ }
+    ensures promised { λ r. ⌜ Promised-to (now (buyers .entry)) (now (sellers .entry)) r ⌝ }
 {
-    let count = count_pairs(buyers, sellers);
+    settle(buyers, sellers, count_pairs(buyers, sellers))
+}
+
+// The outcome of so many pairs.
+fn settle(buyers: &[Ranked], sellers: &[Ranked], count: usize) -> Outcome
+    requires { ⌜ count ≤ length (now buyers) ⌝ ∗ ⌜ count ≤ length (now sellers) ⌝ }
+    ensures { λ r. ⌜ r ≡ outcome-of count (cents-of (now (buyers .entry))) (cents-of (now (sellers .entry))) ⌝ }
+{
     if count == 0 {
         return Outcome::NoTrade;
     }
@@ -38,13 +48,20 @@ pub fn clear(buyers: &[Ranked], sellers: &[Ranked]) -> Outcome
     let ask = cents_at(sellers, last).half_cents();
     if let Some(price) = next_middle(buyers, sellers, count) {
         if ask.0 <= price.0 && price.0 <= bid.0 {
-            return Outcome::OnePrice { trades: count, price };
+            return Outcome::OnePrice {
+                trades: count,
+                price,
+            };
         }
     }
     if last == 0 {
         return Outcome::NoTrade;
     }
-    Outcome::TwoPrices { trades: last, buyers: bid, sellers: ask }
+    Outcome::TwoPrices {
+        trades: last,
+        buyers: bid,
+        sellers: ask,
+    }
 }
 
 // The price half way between the bid and the ask of a rank; none where there are not both.

@@ -36,21 +36,27 @@ one-less n m xs xs′ x ex e = omega (arith, ap length ex)
 
 pub loop-buyer-again : need.loop-buyer-again
 loop-buyer-again c =
-    let z = zip-more _ _ _ _ (c .in-Some .is) (c .next .ensures .steps) in
-    ((tt, tt), (tt, tt), one-less _ _ _ _ _ (z .0) (c .loop-buyer .inv .2), one-less _ _ _ _ _ (z .1) (c .loop-buyer .inv .3),
-        more _ _ _ _ _ _ _ _ (z .0) (z .1) (c .if-bid-ask .left) (c .loop-buyer .inv .4))
+    let z = zip-more _ _ _ _ (c .in-Some .is) (c .next .ensures .steps) in (
+      (tt, tt),
+      (tt, tt),
+      one-less _ _ _ _ _ (z .0) (c .loop-buyer .inv .2),
+      one-less _ _ _ _ _ (z .1) (c .loop-buyer .inv .3),
+      more _ _ _ _ _ _ _ _ (z .0) (z .1) (c .if-bid-ask .left) (c .loop-buyer .inv .4),
+    )
 
 pub returns-in-None : need.returns-in-None
 returns-in-None c =
-    record
-    { pairs =
-        ⊎-elim (λ ex. end-buyers _ _ _ _ ex (c .loop-buyer .inv .4)) (λ ey. end-sellers _ _ _ _ ey (c .loop-buyer .inv .4))
-        (either-empty-from-zip _ _ _ (c .in-None .is) (c .next .ensures .steps))
-    ; within = (omega arith, omega arith) }
+    record {
+      pairs =
+          ⊎-elim (λ ex. end-buyers _ _ _ _ ex (c .loop-buyer .inv .4)) (λ ey. end-sellers _ _ _ _ ey (c .loop-buyer .inv .4))
+          (either-empty-from-zip _ _ _ (c .in-None .is) (c .next .ensures .steps));
+      within = (omega arith, omega arith);
+    }
 
 pub returns-then-bid-ask : need.returns-then-bid-ask
 returns-then-bid-ask c =
     let z = zip-more _ _ _ _ (c .in-Some .is) (c .next .ensures .steps) in
-    record
-    { pairs = stop _ _ _ _ _ _ _ _ (z .0) (z .1) (c .if-bid-ask .taken) (c .loop-buyer .inv .4)
-    ; within = (omega arith, omega arith) }
+    record {
+      pairs = stop _ _ _ _ _ _ _ _ (z .0) (z .1) (c .if-bid-ask .taken) (c .loop-buyer .inv .4);
+      within = (omega arith, omega arith);
+    }

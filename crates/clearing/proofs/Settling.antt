@@ -1,0 +1,163 @@
+-- What the definitions of pairs and of the outcome say, in facts that the theory takes up from either side.
+use mathlib.Core.Path.{_≡_, refl, sym, _∙_, ap, subst}
+use mathlib.Core.Bool.{Bool, true, false, cond, _&&_}
+use mathlib.Core.Logic.{_⊎_, inl, inr, ⊎-elim}
+use mathlib.Core.List.{List, [], _∷_}
+use Prim.Native.Nat.{ℕ, zero, suc, _+_, _-_, _*_, _≤_, _<_}
+use native.Mathlib.Omega.{arith}
+use lib.ListN.{length, getD}
+use lib.Dec.{leb, eqb}
+use Rattle.std.specs.declared.option.Option.{Option}
+use Rattle.std.specs.declared.option.Option.the-variants.{Some, None}
+use Rattle.std.proofs.shelf.Tests.{cases-lt, le-leb, leb-true, eqb-true, eqb-false, and-from, and-parts, cond-both, both-ways}
+use Rattle.orders.specs.declared.money.HalfCents.{HalfCents}
+use Rattle.ranking.specs.declared.ranked.Side.{Side}
+use Rattle.ranking.specs.declared.ranked.Side.the-variants.{Buyers, Sellers}
+use Rattle.clearing.specs.declared.outcome.Outcome.{Outcome}
+use Rattle.clearing.specs.declared.outcome.Outcome.the-variants.{NoTrade, OnePrice, TwoPrices}
+use Rattle.clearing.specs.Rule.{at-rank, pairs, between, half-cents, middle-at, all-but-last, settled, outcome-of, cleared, trades-in, buyers-pay, sellers-get}
+use Rattle.clearing.proofs.Pairing.{pairs-yes, pairs-no, pairs-no-bids, pairs-no-asks, middle-there, middle-missing}
+use Rattle.clearing.proofs.Sides.{Good}
+use Rattle.clearing.proofs.Critical.{Pairs, Serving, Cleared, none, one-price, two-prices}
+
+-- own numbers and the other side's as bids and asks
+abbrev pub bids-of : Side → List ℕ → List ℕ → List ℕ
+bids-of Buyers own other = own
+bids-of Sellers own other = other
+
+abbrev pub asks-of : Side → List ℕ → List ℕ → List ℕ
+asks-of Buyers own other = other
+asks-of Sellers own other = own
+
+abbrev pub price : Side → Outcome → ℕ
+price Buyers o = buyers-pay o
+price Sellers o = sellers-get o
+
+no-pairs : (bids asks : List ℕ) → (length bids ≡ 0) ⊎ (length asks ≡ 0) → Pairs Buyers bids asks 0
+no-pairs bids asks h =
+    record {
+      own = omega arith;
+      other = omega arith;
+      pair = λ k l. absurd (omega arith);
+      stop = λ l m g. omega arith;
+    }
+
+buyers-pairs : (bids asks : List ℕ) → Pairs Buyers bids asks (pairs bids asks)
+buyers-pairs [] asks = subst (λ n. Pairs Buyers [] asks n) (sym (pairs-no-bids asks)) (no-pairs [] asks (inl refl))
+buyers-pairs (b ∷ bids) [] =
+    subst (λ n. Pairs Buyers (b ∷ bids) [] n) (sym (pairs-no-asks (b ∷ bids))) (no-pairs (b ∷ bids) [] (inr refl))
+buyers-pairs (b ∷ bids) (a ∷ asks) = go (buyers-pairs bids asks) (cases-lt b a)
+  where
+    first : (k : ℕ) → Pairs Buyers bids asks (pairs bids asks) → a ≤ b → k < suc (pairs bids asks) →
+        at-rank (a ∷ asks) k ≤ at-rank (b ∷ bids) k
+    first zero ih h l = h
+    first (suc k) ih h l = ih .pair k (omega arith)
+
+    go : Pairs Buyers bids asks (pairs bids asks) → (b < a) ⊎ (a ≤ b) →
+        Pairs Buyers (b ∷ bids) (a ∷ asks) (pairs (b ∷ bids) (a ∷ asks))
+    go ih (inl h) =
+        subst (λ n. Pairs Buyers (b ∷ bids) (a ∷ asks) n) (sym (pairs-no b a bids asks h))
+        (record {
+          own = omega arith;
+          other = omega arith;
+          pair = λ k l. absurd (omega arith);
+          stop = λ l m g. omega arith;
+        })
+    go ih (inr h) =
+        subst (λ n. Pairs Buyers (b ∷ bids) (a ∷ asks) n) (sym (pairs-yes b a bids asks h))
+        (record {
+          own = omega (arith, ih .own);
+          other = omega (arith, ih .other);
+          pair = λ k l. first k ih h l;
+          stop = λ l m g. ih .stop (omega arith) (omega arith) g;
+        })
+
+pub pairs-are : (s : Side) (own other : List ℕ) → Pairs s own other (pairs (bids-of s own other) (asks-of s own other))
+pairs-are Buyers own other = buyers-pairs own other
+pairs-are Sellers own other =
+    let h = buyers-pairs other own in
+    record { own = h .other; other = h .own; pair = h .pair; stop = λ l m g. h .stop m l g }
+
+-- an outcome by the rule, with p pairs
+pub data Settled (bids asks : List ℕ) (p : ℕ) (o : Outcome) : Type 0 where
+  no-pair : p ≡ 0 → trades-in o ≡ 0 → buyers-pay o ≡ 0 → sellers-get o ≡ 0 → Settled bids asks p o
+  all-pairs : (last : ℕ) → p ≡ suc last → Serving Buyers bids asks last → trades-in o ≡ suc last →
+      buyers-pay o ≡ at-rank bids (suc last) + at-rank asks (suc last) →
+      sellers-get o ≡ at-rank bids (suc last) + at-rank asks (suc last) → Settled bids asks p o
+  only-pair : p ≡ 1 → (Serving Buyers bids asks 0 → ⊥) → trades-in o ≡ 0 → buyers-pay o ≡ 0 → sellers-get o ≡ 0 → Settled bids asks p o
+  but-last : (last : ℕ) → 0 < last → p ≡ suc last → (Serving Buyers bids asks last → ⊥) → trades-in o ≡ last →
+      buyers-pay o ≡ 2 * at-rank bids last → sellers-get o ≡ 2 * at-rank asks last → Settled bids asks p o
+
+settles-but-last : (bids asks : List ℕ) (last : ℕ) → (Serving Buyers bids asks last → ⊥) →
+    Settled bids asks (suc last) (all-but-last last (2 * at-rank bids last) (2 * at-rank asks last))
+settles-but-last bids asks last v =
+    cond-both (eqb last 0) NoTrade _ (λ o. Settled bids asks (suc last) o)
+    (λ e. let z = eqb-true last 0 e in only-pair (ap suc z) (subst (λ n. Serving Buyers bids asks n → ⊥) z v) refl refl refl)
+    (λ e. but-last last (omega (arith, eqb-false last 0 e)) refl v refl refl refl)
+
+settles-next : (bids asks : List ℕ) (last : ℕ) → suc last < length bids → suc last < length asks →
+    Settled bids asks (suc last)
+    (settled last (2 * at-rank bids last) (2 * at-rank asks last)
+    (Some (half-cents (at-rank bids (suc last) + at-rank asks (suc last)))))
+settles-next bids asks last hb ha =
+    let low : ℕ = 2 * at-rank asks last in
+    let mid : ℕ = at-rank bids (suc last) + at-rank asks (suc last) in
+    let high : ℕ = 2 * at-rank bids last in
+    cond-both (between low mid high) _ _ (λ o. Settled bids asks (suc last) o)
+    (λ e. let h = and-parts (leb low mid) (leb mid high) e in
+    all-pairs last refl
+    (record { own = hb; other = ha; over = leb-true low mid (h .0); under = leb-true mid high (h .1) }) refl refl refl)
+    (λ e. settles-but-last bids asks last (λ v. both-ways (between low mid high) e
+    (and-from (leb low mid) (leb mid high) (le-leb low mid (v .over)) (le-leb mid high (v .under)))))
+
+settles-alone : (bids asks : List ℕ) (last : ℕ) → (length bids ≤ suc last) ⊎ (length asks ≤ suc last) →
+    Settled bids asks (suc last) (outcome-of (suc last) bids asks)
+settles-alone bids asks last h =
+    subst (λ m. Settled bids asks (suc last) (settled last (2 * at-rank bids last) (2 * at-rank asks last) m))
+    (sym (middle-missing (suc last) bids asks h))
+    (settles-but-last bids asks last (λ v. omega (arith, v .own, v .other)))
+
+settles-of : (p : ℕ) (bids asks : List ℕ) → Settled bids asks p (outcome-of p bids asks)
+settles-of zero bids asks = no-pair refl refl refl refl
+settles-of (suc last) bids asks =
+    elim (cases-lt (suc last) (length bids)) [
+      | inr h ↦ settles-alone bids asks last (inl h)
+      | inl hb ↦ elim (cases-lt (suc last) (length asks)) [
+        | inr h ↦ settles-alone bids asks last (inr h)
+        | inl ha ↦
+            subst (λ m. Settled bids asks (suc last) (settled last (2 * at-rank bids last) (2 * at-rank asks last) m))
+            (sym (middle-there (suc last) _ _ bids asks hb ha refl refl)) (settles-next bids asks last hb ha)
+      ]
+    ]
+
+pub settles : (bids asks : List ℕ) → Settled bids asks (pairs bids asks) (cleared bids asks)
+settles bids asks = settles-of (pairs bids asks) bids asks
+
+-- the same from the sellers
+serving-turned : (bids asks : List ℕ) (last : ℕ) → Serving Buyers bids asks last → Serving Sellers asks bids last
+serving-turned bids asks last v =
+    record { own = v .other; other = v .own; over = omega (arith, v .under); under = omega (arith, v .over) }
+
+serving-back : (bids asks : List ℕ) (last : ℕ) → Serving Sellers asks bids last → Serving Buyers bids asks last
+serving-back bids asks last v =
+    record { own = v .other; other = v .own; over = omega (arith, v .under); under = omega (arith, v .over) }
+
+from-side : (s : Side) (own other : List ℕ) (p : ℕ) (o : Outcome) →
+    Settled (bids-of s own other) (asks-of s own other) p o → Cleared s own other p (trades-in o) (price s o)
+from-side Buyers own other p o (no-pair e t _ _) = none e t
+from-side Buyers own other p o (all-pairs last e v t b _) = one-price last e v t b
+from-side Buyers own other p o (only-pair e v t _ _) = two-prices 0 e v t (λ l. absurd (omega arith))
+from-side Buyers own other p o (but-last last l e v t b _) = two-prices last e v t (λ _. b)
+from-side Sellers own other p o (no-pair e t _ _) = none e t
+from-side Sellers own other p o (all-pairs last e v t _ a) =
+    one-price last e (serving-turned other own last v) t (omega arith)
+from-side Sellers own other p o (only-pair e v t _ _) =
+    two-prices 0 e (λ z. v (serving-back other own 0 z)) t (λ l. absurd (omega arith))
+from-side Sellers own other p o (but-last last l e v t _ a) =
+    two-prices last e (λ z. v (serving-back other own last z)) t (λ _. a)
+
+pub clears : (s : Side) (own other : List ℕ) →
+    Cleared s own other (pairs (bids-of s own other) (asks-of s own other))
+    (trades-in (cleared (bids-of s own other) (asks-of s own other)))
+    (price s (cleared (bids-of s own other) (asks-of s own other)))
+clears s own other = from-side s own other _ _ (settles (bids-of s own other) (asks-of s own other))
