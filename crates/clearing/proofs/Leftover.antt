@@ -21,7 +21,7 @@ use Rattle.ranking.specs.Ranks.{on-side, ranked}
 use Rattle.clearing.specs.declared.outcome.Outcome.{Outcome}
 use Rattle.clearing.specs.Rule.{cents-of, at-rank, pairs, cleared, trades-in, buyers-pay, sellers-get, fund-gets}
 use Rattle.clearing.specs.Kind.{Apart, bids, asks, pairs-in, outcome, number, how-many, standing, rank, trades-with}
-use Rattle.clearing.specs.Statements.{Pairs-first, Fund-never-pays, All-but-one, Least-left, No-two-left, Left-gain-least}
+use Rattle.clearing.specs.Statements.{Pair, Pairs-first, Fund-never-pays, All-but-one, Least-left, No-two-left, Left-gain-least}
 use Rattle.clearing.proofs.Pairing.{cents-at, length-cents}
 use Rattle.clearing.proofs.Critical.{Falling, Pairs, Serving}
 use Rattle.clearing.proofs.Settling.{Settled, no-pair, all-pairs, only-pair, but-last, pairs-are, settles}
@@ -32,21 +32,33 @@ pub length-numbers : (s : Side) (tie : ℕ → ℕ) (row : List Entry) → lengt
 length-numbers s tie row = length-cents (ranked s tie row) ∙ length-ranked s tie row
 
 pub pairs-first : Pairs-first
-pairs-first tie row r = (
-  λ h. (omega (arith, length-numbers Buyers tie row, ps .own), omega (arith, length-numbers Sellers tie row, ps .other), ps .pair r h),
-  λ b a g. elim (cases-lt r (pairs-in tie row)) [
-    | inl h ↦ h
-    | inr h ↦ absurd (ps .stop (omega (arith, length-numbers Buyers tie row)) (omega (arith, length-numbers Sellers tie row))
-        (omega (
-          arith,
-          ranked-falls Buyers tie row (pairs-in tie row) r h (omega (arith, length-numbers Buyers tie row)),
-          ranked-falls Sellers tie row (pairs-in tie row) r h (omega (arith, length-numbers Sellers tie row)),
-        )))
-  ],
-)
+pairs-first tie row r = (is-pair, no-gap)
   where
     ps : Pairs Buyers (bids tie row) (asks tie row) (pairs-in tie row)
     ps = pairs-are Buyers (bids tie row) (asks tie row)
+
+    is-pair : r < pairs-in tie row → Pair tie row r
+    is-pair h =
+        record {
+          buyer = omega (arith, length-numbers Buyers tie row, ps .own);
+          seller = omega (arith, length-numbers Sellers tie row, ps .other);
+          meet = ps .pair r h;
+        }
+
+    no-gap : Pair tie row r → r < pairs-in tie row
+    no-gap g =
+        let lb : r < length (bids tie row) = omega (arith, length-numbers Buyers tie row, g .buyer) in
+        let la : r < length (asks tie row) = omega (arith, length-numbers Sellers tie row, g .seller) in
+        elim (cases-lt r (pairs-in tie row)) [
+          | inl h ↦ h
+          | inr h ↦ absurd (ps .stop (omega arith) (omega arith)
+              (omega (
+                arith,
+                g .meet,
+                ranked-falls Buyers tie row (pairs-in tie row) r h lb,
+                ranked-falls Sellers tie row (pairs-in tie row) r h la,
+              )))
+        ]
 
 never-pays : (bs as′ : List ℕ) (p : ℕ) (o : Outcome) → Pairs Buyers bs as′ p → Settled bs as′ p o → sellers-get o ≤ buyers-pay o
 never-pays bs as′ p o ps (no-pair e t b s) = omega arith
@@ -54,13 +66,13 @@ never-pays bs as′ p o ps (all-pairs last e v t b s) = omega arith
 never-pays bs as′ p o ps (only-pair e v t b s) = omega arith
 never-pays bs as′ p o ps (but-last last l e v t b s) = omega (arith, ps .pair last (omega arith))
 
-shared : (t b s : ℕ) → s ≤ b → t * b ≡ t * s + t * (b - s)
-shared t b s h = let e : b ≡ s + (b - s) = omega arith in ap (λ n. t * n) e ∙ mul-add t s (b - s)
+share : (t b s : ℕ) → s ≤ b → t * b ≡ t * s + t * (b - s)
+share t b s h = let e : b ≡ s + (b - s) = omega arith in ap (λ n. t * n) e ∙ mul-add t s (b - s)
 
 pub fund-never-pays : Fund-never-pays
 fund-never-pays bs as′ =
     let h = never-pays bs as′ (pairs bs as′) (cleared bs as′) (pairs-are Buyers bs as′) (settles bs as′) in
-    (h, shared (trades-in (cleared bs as′)) (buyers-pay (cleared bs as′)) (sellers-get (cleared bs as′)) h)
+    record { spread = h; shared = share (trades-in (cleared bs as′)) (buyers-pay (cleared bs as′)) (sellers-get (cleared bs as′)) h }
 
 but-one : (bs as′ : List ℕ) (p : ℕ) (o : Outcome) → Settled bs as′ p o → (trades-in o ≡ p) ⊎ (trades-in o + 1 ≡ p)
 but-one bs as′ p o (no-pair e t b s) = inl (omega arith)

@@ -19,11 +19,11 @@ use Rattle.ranking.specs.declared.ranked.Ranked.{Ranked}
 use Rattle.ranking.specs.Ranks.{insert, on-side, ranked}
 use Rattle.clearing.specs.Rule.{cents-of, at-rank, pairs, cleared, trades-in}
 use Rattle.clearing.specs.Kind.{Apart, outcome, number, standing, rank, trades-with}
-use Rattle.clearing.proofs.Sides.{Good, Better, good-or-better, good-same}
+use Rattle.clearing.proofs.Sides.{other, Good, Better, good-or-better, good-same}
 use Rattle.clearing.proofs.Critical.{Falling, Rising, Pairs, Shifted, Case, Never, Critical, critical-price}
 use Rattle.clearing.proofs.Settling.{bids-of, asks-of, price, pairs-are, clears}
 use Rattle.clearing.proofs.Placing.{place, insert-put}
-use Rattle.clearing.proofs.Rows.{other, entry, stands, ranked-falls, fellows, partners, own-list, other-list, rank-is-place}
+use Rattle.clearing.proofs.Rows.{entry, stands, ranked-falls, fellows, partners, own-list, other-list, rank-is-place}
 
 abbrev pub trading : Side → (ℕ → ℕ) → List Entry → ℕ → Bool
 trading s tie row i = trades-with s tie row i (number s row i)

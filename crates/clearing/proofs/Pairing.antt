@@ -35,11 +35,11 @@ cents-at xs i d h = getD-map (λ (x : Ranked). x .cents .0) xs i d 0 h
 pub length-cents : (xs : List Ranked) → length (cents-of xs) ≡ length xs
 length-cents xs = length-map xs (λ (x : Ranked). x .cents .0)
 
-pub middle-there : (r b a : ℕ) (bids asks : List ℕ) → r < length bids → r < length asks → b ≡ at-rank bids r →
-    a ≡ at-rank asks r → middle-at r bids asks ≡ Some (half-cents (b + a))
-middle-there r b a bids asks hb ha eb ea =
+pub middle-there : (r n : ℕ) (bids asks : List ℕ) → r < length bids → r < length asks →
+    n ≡ at-rank bids r + at-rank asks r → middle-at r bids asks ≡ Some (half-cents n)
+middle-there r n bids asks hb ha e =
     cond-true _ _ _ (and-from _ _ (lt-ltb r (length bids) hb) (lt-ltb r (length asks) ha))
-    ∙ ap (λ n. Some (half-cents n)) (omega arith)
+    ∙ ap (λ m. Some (half-cents m)) (sym e)
 
 pub middle-missing : (r : ℕ) (bids asks : List ℕ) → (length bids ≤ r) ⊎ (length asks ≤ r) → middle-at r bids asks ≡ None
 middle-missing r bids asks (inl l) = cond-false _ _ _ (and-left _ _ (le-ltb r (length bids) l))

@@ -22,7 +22,7 @@ use Rattle.ranking.specs.declared.ranked.Ranked.{Ranked}
 use Rattle.ranking.specs.Ranks.{before, insert, on-side, entered, ranked-from, ranked}
 use Rattle.clearing.specs.Rule.{cents-of, at-rank, pairs, cleared, trades-in}
 use Rattle.clearing.specs.Kind.{Apart, outcome, number, standing, one-before, before-from, rank, trades-with}
-use Rattle.clearing.proofs.Sides.{Good}
+use Rattle.clearing.proofs.Sides.{other}
 use Rattle.clearing.proofs.Critical.{Falling, Rising, Shifted, Case}
 use Rattle.clearing.proofs.Settling.{bids-of, asks-of, price, pairs-are, clears}
 use Rattle.clearing.proofs.Placing.{place, count-before, Ordered, Differ, insert-put, insert-ordered, insert-comm, all-insert, place-counts, count-insert, put-falls, before-itself}
@@ -128,10 +128,6 @@ module _ (s : Side) (tie : ℕ → ℕ) where
       ap (entered s tie m (on-side s x)) (put-last (suc m) es k e (apart-tail tie m x es a) (omega arith))
       ∙ entered-comm m (suc m + k) (on-side s x) (on-side s e) (ranked-from s tie (suc m) (set es k Nothing)) d
       ∙ ap (λ n. entered s tie n (on-side s e) (entered s tie m (on-side s x) (ranked-from s tie (suc m) (set es k Nothing)))) i
-
-abbrev pub other : Side → Side
-other Buyers = Sellers
-other Sellers = Buyers
 
 abbrev pub entry : Side → Cents → Entry
 entry Buyers c = Bid c

@@ -17,17 +17,18 @@ use Rattle.clearing.specs.declared.outcome.Outcome.{Outcome}
 use Rattle.clearing.specs.declared.outcome.Outcome.the-variants.{NoTrade, OnePrice, TwoPrices}
 use Rattle.clearing.specs.Rule.{at-rank, pairs, between, half-cents, middle-at, all-but-last, settled, outcome-of, cleared, trades-in, buyers-pay, sellers-get}
 use Rattle.clearing.proofs.Pairing.{pairs-yes, pairs-no, pairs-no-bids, pairs-no-asks, middle-there, middle-missing}
-use Rattle.clearing.proofs.Sides.{Good}
+use native.Mathlib.Nat.{add-comm}
+use Rattle.clearing.proofs.Sides.{other, good-same, good-turned}
 use Rattle.clearing.proofs.Critical.{Pairs, Serving, Cleared, none, one-price, two-prices}
 
 -- own numbers and the other side's as bids and asks
 abbrev pub bids-of : Side → List ℕ → List ℕ → List ℕ
-bids-of Buyers own other = own
-bids-of Sellers own other = other
+bids-of Buyers own partner = own
+bids-of Sellers own partner = partner
 
 abbrev pub asks-of : Side → List ℕ → List ℕ → List ℕ
-asks-of Buyers own other = other
-asks-of Sellers own other = own
+asks-of Buyers own partner = partner
+asks-of Sellers own partner = own
 
 abbrev pub price : Side → Outcome → ℕ
 price Buyers o = buyers-pay o
@@ -72,10 +73,10 @@ buyers-pairs (b ∷ bids) (a ∷ asks) = go (buyers-pairs bids asks) (cases-lt b
           stop = λ l m g. ih .stop (omega arith) (omega arith) g;
         })
 
-pub pairs-are : (s : Side) (own other : List ℕ) → Pairs s own other (pairs (bids-of s own other) (asks-of s own other))
-pairs-are Buyers own other = buyers-pairs own other
-pairs-are Sellers own other =
-    let h = buyers-pairs other own in
+pub pairs-are : (s : Side) (own partner : List ℕ) → Pairs s own partner (pairs (bids-of s own partner) (asks-of s own partner))
+pairs-are Buyers own partner = buyers-pairs own partner
+pairs-are Sellers own partner =
+    let h = buyers-pairs partner own in
     record { own = h .other; other = h .own; pair = h .pair; stop = λ l m g. h .stop m l g }
 
 -- an outcome by the rule, with p pairs
@@ -126,38 +127,40 @@ settles-of (suc last) bids asks =
         | inr h ↦ settles-alone bids asks last (inr h)
         | inl ha ↦
             subst (λ m. Settled bids asks (suc last) (settled last (2 * at-rank bids last) (2 * at-rank asks last) m))
-            (sym (middle-there (suc last) _ _ bids asks hb ha refl refl)) (settles-next bids asks last hb ha)
+            (sym (middle-there (suc last) _ bids asks hb ha refl)) (settles-next bids asks last hb ha)
       ]
     ]
 
 pub settles : (bids asks : List ℕ) → Settled bids asks (pairs bids asks) (cleared bids asks)
 settles bids asks = settles-of (pairs bids asks) bids asks
 
--- the same from the sellers
-serving-turned : (bids asks : List ℕ) (last : ℕ) → Serving Buyers bids asks last → Serving Sellers asks bids last
-serving-turned bids asks last v =
-    record { own = v .other; other = v .own; over = omega (arith, v .under); under = omega (arith, v .over) }
+-- the same from the other side
+serving-turned : (s : Side) (own partner : List ℕ) (last : ℕ) → Serving s own partner last → Serving (other s) partner own last
+serving-turned s own partner last v =
+    let e = add-comm (at-rank own (suc last)) (at-rank partner (suc last)) in
+    record {
+      own = v .other;
+      other = v .own;
+      over = good-same (other s) _ _ _ _ (good-turned s _ _ (v .under)) e refl;
+      under = good-same (other s) _ _ _ _ (good-turned s _ _ (v .over)) refl e;
+    }
 
-serving-back : (bids asks : List ℕ) (last : ℕ) → Serving Sellers asks bids last → Serving Buyers bids asks last
-serving-back bids asks last v =
-    record { own = v .other; other = v .own; over = omega (arith, v .under); under = omega (arith, v .over) }
+from-side : (s : Side) (own partner : List ℕ) (p : ℕ) (o : Outcome) →
+    Settled (bids-of s own partner) (asks-of s own partner) p o → Cleared s own partner p (trades-in o) (price s o)
+from-side Buyers own partner p o (no-pair e t _ _) = none e t
+from-side Buyers own partner p o (all-pairs last e v t b _) = one-price last e v t b
+from-side Buyers own partner p o (only-pair e v t _ _) = two-prices 0 e v t (λ l. absurd (omega arith))
+from-side Buyers own partner p o (but-last last l e v t b _) = two-prices last e v t (λ _. b)
+from-side Sellers own partner p o (no-pair e t _ _) = none e t
+from-side Sellers own partner p o (all-pairs last e v t _ a) =
+    one-price last e (serving-turned Buyers partner own last v) t (omega arith)
+from-side Sellers own partner p o (only-pair e v t _ _) =
+    two-prices 0 e (λ z. v (serving-turned Sellers own partner 0 z)) t (λ l. absurd (omega arith))
+from-side Sellers own partner p o (but-last last l e v t _ a) =
+    two-prices last e (λ z. v (serving-turned Sellers own partner last z)) t (λ _. a)
 
-from-side : (s : Side) (own other : List ℕ) (p : ℕ) (o : Outcome) →
-    Settled (bids-of s own other) (asks-of s own other) p o → Cleared s own other p (trades-in o) (price s o)
-from-side Buyers own other p o (no-pair e t _ _) = none e t
-from-side Buyers own other p o (all-pairs last e v t b _) = one-price last e v t b
-from-side Buyers own other p o (only-pair e v t _ _) = two-prices 0 e v t (λ l. absurd (omega arith))
-from-side Buyers own other p o (but-last last l e v t b _) = two-prices last e v t (λ _. b)
-from-side Sellers own other p o (no-pair e t _ _) = none e t
-from-side Sellers own other p o (all-pairs last e v t _ a) =
-    one-price last e (serving-turned other own last v) t (omega arith)
-from-side Sellers own other p o (only-pair e v t _ _) =
-    two-prices 0 e (λ z. v (serving-back other own 0 z)) t (λ l. absurd (omega arith))
-from-side Sellers own other p o (but-last last l e v t _ a) =
-    two-prices last e (λ z. v (serving-back other own last z)) t (λ _. a)
-
-pub clears : (s : Side) (own other : List ℕ) →
-    Cleared s own other (pairs (bids-of s own other) (asks-of s own other))
-    (trades-in (cleared (bids-of s own other) (asks-of s own other)))
-    (price s (cleared (bids-of s own other) (asks-of s own other)))
-clears s own other = from-side s own other _ _ (settles (bids-of s own other) (asks-of s own other))
+pub clears : (s : Side) (own partner : List ℕ) →
+    Cleared s own partner (pairs (bids-of s own partner) (asks-of s own partner))
+    (trades-in (cleared (bids-of s own partner) (asks-of s own partner)))
+    (price s (cleared (bids-of s own partner) (asks-of s own partner)))
+clears s own partner = from-side s own partner _ _ (settles (bids-of s own partner) (asks-of s own partner))

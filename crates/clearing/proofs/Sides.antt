@@ -16,6 +16,14 @@ abbrev pub Better : Side → ℕ → ℕ → Type 0
 Better Buyers x y = y < x
 Better Sellers x y = x < y
 
+abbrev pub other : Side → Side
+other Buyers = Sellers
+other Sellers = Buyers
+
+pub good-turned : (s : Side) (x y : ℕ) → Good s x y → Good (other s) y x
+good-turned Buyers x y h = h
+good-turned Sellers x y h = h
+
 pub good-same : (s : Side) (x y x′ y′ : ℕ) → Good s x y → x ≡ x′ → y ≡ y′ → Good s x′ y′
 good-same Buyers x y x′ y′ h e f = omega arith
 good-same Sellers x y x′ y′ h e f = omega arith

@@ -68,21 +68,24 @@ module _ (s : Side) (tie : ℕ → ℕ) (row : List Entry) (a : Apart tie row) w
       (subst (λ m. (place s tie x (fellows s tie row a i l) < length m) × (getD m (place s tie x (fellows s tie row a i l)) d ≡ x))
       (sym (own-list s tie row a i l c)) (at-place s tie x (fellows s tie row a i l) d)))
 
-  -- of two in the list, the one that comes before has the lower place
-  pub before-lower : (x y : Ranked) (j k : ℕ) (d : Ranked) → j < length (ranked s tie row) → k < length (ranked s tie row) →
+  -- of two places, the lower one's member comes before
+  ordered-here : (x y : Ranked) (j k : ℕ) (d : Ranked) → j < k → k < length (ranked s tie row) →
+      getD (ranked s tie row) j d ≡ x → getD (ranked s tie row) k d ≡ y → before s tie x y ≡ true
+  ordered-here x y j k d l lk ej ek =
+      subst (λ u. before s tie u y ≡ true) ej
+      (subst (λ u. before s tie (getD (ranked s tie row) j d) u ≡ true) ek
+      (ordered-at s tie (ranked s tie row) j k d (ranked-ordered s tie row a) l lk))
+
+  before-lower : (x y : Ranked) (j k : ℕ) (d : Ranked) → j < length (ranked s tie row) →
       getD (ranked s tie row) j d ≡ x → getD (ranked s tie row) k d ≡ y → before s tie x y ≡ true → j < k
-  before-lower x y j k d lj lk ej ek b =
+  before-lower x y j k d lj ej ek b =
       elim (cases-order j k) [
         | inl e ↦
             let z : x ≡ y = sym ej ∙ ap (λ n. getD (ranked s tie row) n d) e ∙ ek in
             absurd (both-ways _ (before-itself s tie y) (subst (λ u. before s tie u y ≡ true) z b))
         | inr h ↦ elim h [
           | inl l ↦ l
-          | inr l ↦
-              let o = ordered-at s tie (ranked s tie row) k j d (ranked-ordered s tie row a) l lj in
-              let o′ : before s tie y x ≡ true =
-              subst (λ u. before s tie u x ≡ true) ek (subst (λ u. before s tie (getD (ranked s tie row) k d) u ≡ true) ej o) in
-              absurd (both-ways _ (before-not-back s tie x y b) o′)
+          | inr l ↦ absurd (both-ways _ (before-not-back s tie x y b) (ordered-here y x k j d l lj ek ej))
         ]
       ]
 
@@ -92,25 +95,20 @@ module _ (s : Side) (tie : ℕ → ℕ) (row : List Entry) (a : Apart tie row) w
       let x : Ranked = standing i c in
       let p = placed-at i c h x in
       let q = placed-at j d k x in
-      before-lower (standing i c) (standing j d) _ _ x (p .0) (q .0) (p .1) (q .1) b
+      before-lower (standing i c) (standing j d) _ _ x (p .0) (p .1) (q .1) b
+
+  not-twice : (x : Ranked) (j k : ℕ) (d : Ranked) → j < k → k < length (ranked s tie row) →
+      getD (ranked s tie row) j d ≡ x → getD (ranked s tie row) k d ≡ x → ⊥
+  not-twice x j k d l lk ej ek = both-ways _ (before-itself s tie x) (ordered-here x x j k d l lk ej ek)
 
   one-place : (x : Ranked) (j k : ℕ) (d : Ranked) → j < length (ranked s tie row) → k < length (ranked s tie row) →
       getD (ranked s tie row) j d ≡ x → getD (ranked s tie row) k d ≡ x → j ≡ k
   one-place x j k d lj lk ej ek =
       elim (cases-order j k) [
         | inl e ↦ e
-        | inr h ↦ elim h [
-          | inl l ↦ absurd (never (subst (λ u. before s tie u x ≡ true) ej
-              (subst (λ u. before s tie (getD (ranked s tie row) j d) u ≡ true) ek
-              (ordered-at s tie (ranked s tie row) j k d (ranked-ordered s tie row a) l lk))))
-          | inr l ↦ absurd (never (subst (λ u. before s tie u x ≡ true) ek
-              (subst (λ u. before s tie (getD (ranked s tie row) k d) u ≡ true) ej
-              (ordered-at s tie (ranked s tie row) k j d (ranked-ordered s tie row a) l lj))))
-        ]
+        | inr h ↦ elim h
+            [ inl l ↦ absurd (not-twice x j k d l lk ej ek) | inr l ↦ absurd (not-twice x k j d l lj ek ej) ]
       ]
-    where
-      never : before s tie x x ≡ true → ⊥
-      never h = both-ways _ (before-itself s tie x) h
 
 entered-length : (s : Side) (tie : ℕ → ℕ) (m : ℕ) (o : Option Cents) (xs : List Ranked) →
     length (entered s tie m o xs) ≡ cond (isSome o) 1 0 + length xs

@@ -19,7 +19,7 @@ use Rattle.clearing.specs.Rule.{cents-of, pairs, cleared, trades-in}
 use Rattle.clearing.specs.Kind.{Apart, bids, asks, outcome, number, standing, rank, trades-with}
 use Rattle.clearing.specs.Matching.{Match}
 use Rattle.clearing.specs.Evenings.{row-with}
-use Rattle.clearing.specs.Statements.{True-bids, True-asks, Promised, Promised-to, Critical-bid, Critical-ask, Price-not-own, No-loss, Ranks, Better-first, Tie-rule, Lower-member-first, More-may-gain, Evenings-told}
+use Rattle.clearing.specs.Statements.{True-bids, True-asks, Promised, Promised-to, Critical-bid, Critical-ask, Bid-moves-no-price, Ask-moves-no-price, Pays-at-most-bid, Gets-at-least-ask, Ranks, Higher-bid-first, Lower-ask-first, Tie-rule, Lower-member-first, More-may-gain, Evenings-told}
 use Rattle.clearing.proofs.Sides.{Good}
 use Rattle.clearing.proofs.Settling.{price}
 use Rattle.clearing.proofs.Rows.{entry}
@@ -34,13 +34,18 @@ pub critical-ask : Critical-ask
 critical-ask tie row a i l = critical-in-row Sellers tie row a i l
 
 pub true-bids : True-bids
-true-bids tie row a i l v w = (true-number Buyers tie row a i l v w, no-loss-with Buyers tie row a i l v)
+true-bids tie row a i l v w =
+    record { best = true-number Buyers tie row a i l v w; no-loss = no-loss-with Buyers tie row a i l v }
 
 pub true-asks : True-asks
-true-asks tie row a i l v w = (true-number Sellers tie row a i l v w, no-loss-with Sellers tie row a i l v)
+true-asks tie row a i l v w =
+    record { best = true-number Sellers tie row a i l v w; no-loss = no-loss-with Sellers tie row a i l v }
 
-pub price-not-own : Price-not-own
-price-not-own tie row a i l v w = (price-not-own-with Buyers tie row a i l v w, price-not-own-with Sellers tie row a i l v w)
+pub bid-moves-no-price : Bid-moves-no-price
+bid-moves-no-price tie row a i l v w = price-not-own-with Buyers tie row a i l v w
+
+pub ask-moves-no-price : Ask-moves-no-price
+ask-moves-no-price tie row a i l v w = price-not-own-with Sellers tie row a i l v w
 
 -- as the row stands
 module _ (s : Side) (tie : ℕ → ℕ) (row : List Entry) (a : Apart tie row) (i : ℕ) (v : Cents) (h : number s row i ≡ Some v) where
@@ -76,9 +81,11 @@ module _ (s : Side) (tie : ℕ → ℕ) (row : List Entry) (a : Apart tie row) (
   no-loss-by-rank : rank s tie row (standing i v) < trades-in (outcome tie row) → Good s (2 * v .0) (price s (outcome tie row))
   no-loss-by-rank l = no-loss-of (trading-by-rank ∙ lt-ltb _ _ l)
 
-pub no-loss : No-loss
-no-loss tie row a i c =
-    (λ e. no-loss-of Buyers tie row a i c (ap (on-side Buyers) e), λ e. no-loss-of Sellers tie row a i c (ap (on-side Sellers) e))
+pub pays-at-most-bid : Pays-at-most-bid
+pays-at-most-bid tie row a i c e = no-loss-of Buyers tie row a i c (ap (on-side Buyers) e)
+
+pub gets-at-least-ask : Gets-at-least-ask
+gets-at-least-ask tie row a i c e = no-loss-of Sellers tie row a i c (ap (on-side Sellers) e)
 
 promised : (tie : ℕ → ℕ) (row : List Entry) → Apart tie row → Promised tie row (outcome tie row)
 promised tie row a =
@@ -87,7 +94,7 @@ promised tie row a =
       best-ask = λ i v w e. by-rank Sellers tie row a i v (ap (on-side Sellers) e) w;
       pays-at-most = λ i v e. no-loss-by-rank Buyers tie row a i v (ap (on-side Buyers) e);
       gets-at-least = λ i v e. no-loss-by-rank Sellers tie row a i v (ap (on-side Sellers) e);
-      fund-pays-not = fund-never-pays (bids tie row) (asks tie row) .0;
+      balanced = fund-never-pays (bids tie row) (asks tie row);
     }
 
 pub promised-to : (buying selling : List Ranked) → Promised-to buying selling (cleared (cents-of buying) (cents-of selling))
@@ -99,17 +106,13 @@ promised-to buying selling tie row a eb es =
 pub ranks : Ranks
 ranks s tie row a = ranks-of s tie row a
 
-earlier-bid : (tie : ℕ → ℕ) (x y : Ranked) → y .cents .0 < x .cents .0 → before Buyers tie x y ≡ true
-earlier-bid tie x y h = or-left _ _ (lt-ltb _ _ h)
+pub higher-bid-first : Higher-bid-first
+higher-bid-first tie row a i j c d e f l =
+    before-lower-rank Buyers tie row a i j c d (ap (on-side Buyers) e) (ap (on-side Buyers) f) (or-left _ _ (lt-ltb _ _ l))
 
-earlier-ask : (tie : ℕ → ℕ) (x y : Ranked) → x .cents .0 < y .cents .0 → before Sellers tie x y ≡ true
-earlier-ask tie x y h = or-left _ _ (lt-ltb _ _ h)
-
-pub better-first : Better-first
-better-first tie row a i j c d = (
-  λ e f l. before-lower-rank Buyers tie row a i j c d (ap (on-side Buyers) e) (ap (on-side Buyers) f) (earlier-bid tie _ _ l),
-  λ e f l. before-lower-rank Sellers tie row a i j c d (ap (on-side Sellers) e) (ap (on-side Sellers) f) (earlier-ask tie _ _ l),
-)
+pub lower-ask-first : Lower-ask-first
+lower-ask-first tie row a i j c d e f l =
+    before-lower-rank Sellers tie row a i j c d (ap (on-side Sellers) e) (ap (on-side Sellers) f) (or-left _ _ (lt-ltb _ _ l))
 
 pub tie-rule : Tie-rule
 tie-rule s tie row a i j c h k l =

@@ -88,3 +88,16 @@ with-bid row i c = set row i (Bid c)
 
 abbrev pub with-ask : List Entry → ℕ → Cents → List Entry
 with-ask row i c = set row i (Ask c)
+
+-- whether member i would buy with a bid, and what it would pay; and so with an ask
+abbrev pub buys-with : (ℕ → ℕ) → List Entry → ℕ → Cents → Bool
+buys-with tie row i c = buys tie (with-bid row i c) i
+
+abbrev pub pays-with : (ℕ → ℕ) → List Entry → ℕ → Cents → ℕ
+pays-with tie row i c = pays tie (with-bid row i c)
+
+abbrev pub sells-with : (ℕ → ℕ) → List Entry → ℕ → Cents → Bool
+sells-with tie row i c = sells tie (with-ask row i c) i
+
+abbrev pub gets-with : (ℕ → ℕ) → List Entry → ℕ → Cents → ℕ
+gets-with tie row i c = gets tie (with-ask row i c)

@@ -1,5 +1,35 @@
 // What the rule promises. The contract of each function here is a theorem, and the function does nothing else.
-ghost use Rattle.clearing.specs.Statements.{True-bids, True-asks, Critical-bid, Critical-ask, Price-not-own, No-loss, Ranks, Better-first, Tie-rule, Lower-member-first, Pairs-first, Fund-never-pays, All-but-one, Least-left, No-two-left, Left-gain-least, Greatest-gain, Most-at-one-price, More-may-gain, Evenings-told};
+ghost use Rattle.clearing.specs.Statements.{Ranks, Higher-bid-first, Lower-ask-first, Tie-rule, Lower-member-first, Pairs-first, True-bids, True-asks, Critical-bid, Critical-ask, Bid-moves-no-price, Ask-moves-no-price, Pays-at-most-bid, Gets-at-least-ask, Fund-never-pays, All-but-one, Least-left, No-two-left, Left-gain-least, Greatest-gain, Most-at-one-price, More-may-gain, Evenings-told};
+
+// A rank is how many come before; no two have the same, and none is empty.
+pub fn ranks()
+    ensures { λ _. ⌜ Ranks ⌝ }
+{}
+
+// A higher bid has the lower rank.
+pub fn higher_bid_first()
+    ensures { λ _. ⌜ Higher-bid-first ⌝ }
+{}
+
+// A lower ask has the lower rank.
+pub fn lower_ask_first()
+    ensures { λ _. ⌜ Lower-ask-first ⌝ }
+{}
+
+// Of two with one number, the lower tie number has the lower rank.
+pub fn tie_rule()
+    ensures { λ _. ⌜ Tie-rule ⌝ }
+{}
+
+// Today that is the lower member.
+pub fn lower_member_first()
+    ensures { λ _. ⌜ Lower-member-first ⌝ }
+{}
+
+// The ranks that are pairs come first, without a gap.
+pub fn pairs_first()
+    ensures { λ _. ⌜ Pairs-first ⌝ }
+{}
 
 // A buyer's true worth is its best bid.
 pub fn true_bids()
@@ -21,39 +51,24 @@ pub fn critical_ask()
     ensures { λ _. ⌜ Critical-ask ⌝ }
 {}
 
-// The price of a member who trades does not depend on its own number.
-pub fn price_not_own()
-    ensures { λ _. ⌜ Price-not-own ⌝ }
+// What a buyer pays does not depend on its own bid.
+pub fn bid_moves_no_price()
+    ensures { λ _. ⌜ Bid-moves-no-price ⌝ }
 {}
 
-// A buyer pays at most its bid, a seller gets at least its ask.
-pub fn no_loss()
-    ensures { λ _. ⌜ No-loss ⌝ }
+// What a seller gets does not depend on its own ask.
+pub fn ask_moves_no_price()
+    ensures { λ _. ⌜ Ask-moves-no-price ⌝ }
 {}
 
-// A rank is how many come before; no two have the same, and none is empty.
-pub fn ranks()
-    ensures { λ _. ⌜ Ranks ⌝ }
+// A buyer pays at most its bid.
+pub fn pays_at_most_bid()
+    ensures { λ _. ⌜ Pays-at-most-bid ⌝ }
 {}
 
-// A higher bid and a lower ask have the lower rank.
-pub fn better_first()
-    ensures { λ _. ⌜ Better-first ⌝ }
-{}
-
-// Of two with one number, the lower tie number has the lower rank.
-pub fn tie_rule()
-    ensures { λ _. ⌜ Tie-rule ⌝ }
-{}
-
-// Today that is the lower member.
-pub fn lower_member_first()
-    ensures { λ _. ⌜ Lower-member-first ⌝ }
-{}
-
-// The ranks that are pairs come first, without a gap.
-pub fn pairs_first()
-    ensures { λ _. ⌜ Pairs-first ⌝ }
+// A seller gets at least its ask.
+pub fn gets_at_least_ask()
+    ensures { λ _. ⌜ Gets-at-least-ask ⌝ }
 {}
 
 // What buyers pay is what sellers get and what the fund gets.

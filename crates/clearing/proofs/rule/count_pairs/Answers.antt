@@ -41,7 +41,7 @@ loop-buyer-again c =
       (tt, tt),
       one-less _ _ _ _ _ (z .0) (c .loop-buyer .inv .2),
       one-less _ _ _ _ _ (z .1) (c .loop-buyer .inv .3),
-      more _ _ _ _ _ _ _ _ (z .0) (z .1) (c .if-bid-ask .left) (c .loop-buyer .inv .4),
+      more _ _ _ _ _ _ _ _ (z .0) (z .1) (omega arith) (c .loop-buyer .inv .4),
     )
 
 pub returns-in-None : need.returns-in-None
@@ -57,6 +57,6 @@ pub returns-then-bid-ask : need.returns-then-bid-ask
 returns-then-bid-ask c =
     let z = zip-more _ _ _ _ (c .in-Some .is) (c .next .ensures .steps) in
     record {
-      pairs = stop _ _ _ _ _ _ _ _ (z .0) (z .1) (c .if-bid-ask .taken) (c .loop-buyer .inv .4);
+      pairs = stop _ _ _ _ _ _ _ _ (z .0) (z .1) (omega arith) (c .loop-buyer .inv .4);
       within = (omega arith, omega arith);
     }

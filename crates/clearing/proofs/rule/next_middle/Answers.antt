@@ -7,9 +7,8 @@ use Rattle.clearing.proofs.rule.next_middle.Needs as need
 
 pub returns : need.returns
 returns c =
-    sym (middle-there (c .args .rank) (c .from .result) (c .from-2 .result) (cents-of (c .args .buyers .now))
-    (cents-of (c .args .sellers .now)) (omega (arith, length-cents (c .args .buyers .now)))
-    (omega (arith, length-cents (c .args .sellers .now))) (omega arith) (omega arith))
+    sym (middle-there (c .args .rank) _ (cents-of (c .args .buyers .now)) (cents-of (c .args .sellers .now))
+    (omega (arith, length-cents (c .args .buyers .now))) (omega (arith, length-cents (c .args .sellers .now))) (omega arith))
 
 pub returns-then-rank-buyers : need.returns-then-rank-buyers
 returns-then-rank-buyers c =
