@@ -1,11 +1,11 @@
 -- The critical price. Others fixed, either a member never trades, or there is one price such that it trades only at that
 -- price and with a number no worse than it, and trades whenever its number is better.
 use mathlib.Core.Path.{_≡_, refl, sym, _∙_, ap, subst}
-use mathlib.Core.Logic.{_⊎_, inl, inr, ⊎-elim}
-use mathlib.Core.List.{List, [], _∷_}
+use mathlib.Core.Logic.{_⊎_, inl, inr}
+use mathlib.Core.List.{List}
 use Prim.Native.Nat.{ℕ, zero, suc, _+_, _-_, _*_, _≤_, _<_}
 use native.Mathlib.Omega.{arith}
-use lib.ListN.{length, getD}
+use lib.ListN.{length}
 use Rattle.std.proofs.shelf.Tests.{cases-lt}
 use Rattle.ranking.specs.declared.ranked.Side.{Side}
 use Rattle.clearing.specs.Rule.{at-rank}

@@ -1,25 +1,22 @@
 -- Pairs, the fund, and who is left out.
-use mathlib.Core.Path.{_≡_, refl, sym, _∙_, ap, subst}
-use mathlib.Core.Bool.{Bool, true, false}
+use mathlib.Core.Path.{_≡_, sym, _∙_, ap, subst}
+use mathlib.Core.Bool.{false}
 use mathlib.Core.Logic.{_⊎_, inl, inr}
-use mathlib.Core.List.{List, [], _∷_}
-use Prim.Native.Nat.{ℕ, zero, suc, _+_, _-_, _*_, _≤_, _<_}
+use mathlib.Core.List.{List}
+use Prim.Native.Nat.{ℕ, suc, _+_, _-_, _*_, _≤_, _<_}
 use native.Mathlib.Nat.{mul-add}
 use native.Mathlib.Omega.{arith}
-use lib.ListN.{length, getD}
-use lib.Dec.{ltb}
-use Rattle.std.specs.declared.option.Option.{Option}
-use Rattle.std.specs.declared.option.Option.the-variants.{Some, None}
+use lib.ListN.{length}
+use Rattle.std.specs.declared.option.Option.the-variants.{Some}
 use Rattle.std.proofs.shelf.Tests.{cases-lt, ltb-false}
 use Rattle.orders.specs.declared.money.Cents.{Cents}
 use Rattle.orders.specs.declared.entry.Entry.{Entry}
-use Rattle.orders.specs.declared.entry.Entry.the-variants.{Nothing, Bid, Ask}
 use Rattle.ranking.specs.declared.ranked.Side.{Side}
 use Rattle.ranking.specs.declared.ranked.Side.the-variants.{Buyers, Sellers}
 use Rattle.ranking.specs.declared.ranked.Ranked.{Ranked}
 use Rattle.ranking.specs.Ranks.{on-side, ranked}
 use Rattle.clearing.specs.declared.outcome.Outcome.{Outcome}
-use Rattle.clearing.specs.Rule.{cents-of, at-rank, pairs, cleared, trades-in, buyers-pay, sellers-get, fund-gets}
+use Rattle.clearing.specs.Rule.{cents-of, at-rank, pairs, cleared, trades-in, buyers-pay, sellers-get}
 use Rattle.clearing.specs.Kind.{Apart, bids, asks, pairs-in, outcome, number, how-many, standing, rank, trades-with}
 use Rattle.clearing.specs.Statements.{Pair, Pairs-first, Fund-never-pays, All-but-one, Least-left, No-two-left, Left-gain-least}
 use Rattle.clearing.proofs.Pairing.{cents-at, length-cents}

@@ -1,3 +1,4 @@
+pub mod AsMany
 pub mod Critical
 pub mod Matchings
 pub mod OwnNumber
@@ -9,3 +10,4 @@ pub mod Sides
 pub mod Standing
 pub mod Leftover
 pub mod Theorems
+pub mod Totals

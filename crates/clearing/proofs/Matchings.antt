@@ -1,7 +1,7 @@
 -- No matching does better than the pairs of ranks. Any price splits a pair's gain in two, what the bid is above it and
 -- what the ask is below it; over a matching these are at most what they are over all members, and at a price between the
 -- last pair and the next, all members' are those of the pairs.
-use mathlib.Core.Path.{_≡_, refl, sym, _∙_, ap, subst}
+use mathlib.Core.Path.{_≡_, refl, sym, _∙_, ap}
 use mathlib.Core.Bool.{Bool, true, false, cond}
 use mathlib.Core.Logic.{_⊎_, inl, inr}
 use mathlib.Core.List.{List, [], _∷_, map}
@@ -19,18 +19,18 @@ use Rattle.std.proofs.shelf.Tests.{cases-lt, le-leb, lt-leb, cond-true, cond-fa
 use Rattle.std.proofs.shelf.Elements.{all-weaker}
 use Rattle.orders.specs.declared.money.Cents.{Cents}
 use Rattle.orders.specs.declared.entry.Entry.{Entry}
-use Rattle.orders.specs.declared.entry.Entry.the-variants.{Nothing, Bid, Ask}
+use Rattle.orders.specs.declared.entry.Entry.the-variants.{Nothing}
 use Rattle.ranking.specs.declared.ranked.Side.{Side}
 use Rattle.ranking.specs.declared.ranked.Side.the-variants.{Buyers, Sellers}
 use Rattle.ranking.specs.declared.ranked.Ranked.{Ranked}
-use Rattle.ranking.specs.Ranks.{before, insert, on-side, entered, ranked-from, ranked}
-use Rattle.clearing.specs.Rule.{cents-of, at-rank, pairs}
-use Rattle.clearing.specs.Kind.{bids, asks, pairs-in, number, stands-on, standing}
-use Rattle.clearing.specs.Matching.{Match, Matching, Distinct, cents-or-0, bid-in, ask-in, all-bids, all-asks, At-price}
+use Rattle.ranking.specs.Ranks.{on-side, ranked}
+use Rattle.clearing.specs.Rule.{cents-of, at-rank}
+use Rattle.clearing.specs.Kind.{bids, asks, pairs-in, number, stands-on}
+use Rattle.clearing.specs.Matching.{Match, Distinct, cents-or-0, bid-in, ask-in, all-bids, all-asks}
 use Rattle.clearing.specs.Statements.{Greatest-gain, Most-at-one-price}
 use Rattle.clearing.proofs.Critical.{Falling, Pairs}
 use Rattle.clearing.proofs.Settling.{pairs-are}
-use Rattle.clearing.proofs.Placing.{insert-cases, insert-none}
+use Rattle.clearing.proofs.Totals.{counted-as, total-from, total-ranked, sum-parts}
 use Rattle.clearing.proofs.Rows.{nothing-stands, ranked-falls}
 
 -- what a number of a side counts for, under any measure g
@@ -41,33 +41,22 @@ measured g (Some c) = g (c .0)
 abbrev worth : Side → (ℕ → ℕ) → Entry → ℕ
 worth s g e = measured g (on-side s e)
 
-sum-insert : (s : Side) (tie : ℕ → ℕ) (g : ℕ → ℕ) (x : Ranked) (ys : List Ranked) →
-    sumBy g (cents-of (insert s tie x ys)) ≡ g (x .cents .0) + sumBy g (cents-of ys)
-sum-insert s tie g x [] =
-    ap (λ l. sumBy g (cents-of l)) (insert-none s tie x) ∙ sumBy-cons g (x .cents .0) []
-sum-insert s tie g x (y ∷ ys) =
-    let ih = sum-insert s tie g x ys in
-    insert-cases s tie x y ys (λ l. sumBy g (cents-of l) ≡ g (x .cents .0) + sumBy g (cents-of (y ∷ ys)))
-    (λ h. sumBy-cons g (x .cents .0) (cents-of (y ∷ ys)))
-    (λ h. omega (arith, ih, sumBy-cons g (y .cents .0) (cents-of (insert s tie x ys)), sumBy-cons g (y .cents .0) (cents-of ys)))
+worth-is : (g : ℕ → ℕ) (m : ℕ) (o : Option Cents) → measured g o ≡ counted-as (λ y. g (y .cents .0)) m o
+worth-is g m None = refl
+worth-is g m (Some c) = refl
 
-sum-entered : (s : Side) (tie : ℕ → ℕ) (g : ℕ → ℕ) (m : ℕ) (o : Option Cents) (ys : List Ranked) →
-    sumBy g (cents-of (entered s tie m o ys)) ≡ measured g o + sumBy g (cents-of ys)
-sum-entered s tie g m None ys = omega arith
-sum-entered s tie g m (Some c) ys = sum-insert s tie g (standing m c) ys
+sum-row : (s : Side) (g : ℕ → ℕ) (m : ℕ) (es : List Entry) → sumBy (worth s g) es ≡ total-from s (λ y. g (y .cents .0)) m es
+sum-row s g m [] = refl
+sum-row s g m (e ∷ es) =
+    sumBy-cons (worth s g) e es ∙ ap (λ n. worth s g e + n) (sum-row s g (suc m) es)
+    ∙ ap (λ n. n + total-from s (λ y. g (y .cents .0)) (suc m) es) (worth-is g m (on-side s e))
 
 -- a sum over a row is the sum over its ranked list
-sum-from : (s : Side) (tie : ℕ → ℕ) (g : ℕ → ℕ) (m : ℕ) (es : List Entry) →
-    sumBy (worth s g) es ≡ sumBy g (cents-of (ranked-from s tie m es))
-unfolding ranked-from
-sum-from s tie g m [] = refl
-sum-from s tie g m (e ∷ es) =
-    sumBy-cons (worth s g) e es ∙ ap (λ n. worth s g e + n) (sum-from s tie g (suc m) es)
-    ∙ sym (sum-entered s tie g m (on-side s e) (ranked-from s tie (suc m) es))
-
 sum-ranked : (s : Side) (tie : ℕ → ℕ) (g : ℕ → ℕ) (row : List Entry) → sumBy (worth s g) row ≡ sumBy g (cents-of (ranked s tie row))
 unfolding ranked
-sum-ranked s tie g row = sum-from s tie g 0 row
+sum-ranked s tie g row =
+    sum-row s g 0 row ∙ total-ranked s tie (λ y. g (y .cents .0)) 0 row
+    ∙ sum-parts g (λ (y : Ranked). y .cents .0) (ranked s tie row)
 
 -- members taken from a row, none twice, count for at most the whole row
 module _ (f : Entry → ℕ) (f-nothing : f Nothing ≡ 0) where
@@ -98,11 +87,6 @@ module _ (f : Entry → ℕ) (f-nothing : f Nothing ≡ 0) where
 worth-nothing : (s : Side) (g : ℕ → ℕ) → worth s g Nothing ≡ 0
 worth-nothing s g = ap (measured g) (nothing-stands s)
 
-sum-map : (f : ℕ → ℕ) (part : Match → ℕ) (ms : List Match) → sumBy (λ m. f (part m)) ms ≡ sumBy f (map part ms)
-sum-map f part [] = refl
-sum-map f part (m ∷ ms) =
-    sumBy-cons (λ m. f (part m)) m ms ∙ ap (λ n. f (part m) + n) (sum-map f part ms) ∙ sym (sumBy-cons f (part m) (map part ms))
-
 -- one side of a matching counts for at most that side's ranked list
 matched : (s : Side) (tie : ℕ → ℕ) (g : ℕ → ℕ) (row : List Entry) (part : Match → ℕ) (ms : List Match) → Distinct (map part ms) →
     sumBy (λ m. measured g (number s row (part m))) ms ≤ sumBy g (cents-of (ranked s tie row))
@@ -110,7 +94,7 @@ matched s tie g row part ms d =
     omega (
       arith,
       picked (worth s g) (worth-nothing s g) row (map part ms) d,
-      sum-map (λ k. worth s g (getD row k Nothing)) part ms,
+      sum-parts (λ k. worth s g (getD row k Nothing)) part ms,
       sum-ranked s tie g row,
     )
 

@@ -1,26 +1,25 @@
 -- A member's own number and its price, over rows: the critical price, and what follows from it.
-use mathlib.Core.Path.{_≡_, refl, sym, _∙_, ap, subst}
-use mathlib.Core.Bool.{Bool, true, false, cond}
-use mathlib.Core.Logic.{_⊎_, inl, inr, ⊎-elim}
+use mathlib.Core.Path.{_≡_, refl, sym, _∙_, ap}
+use mathlib.Core.Bool.{Bool, true, false}
+use mathlib.Core.Logic.{_⊎_, inl, inr}
 use mathlib.Core.List.{List, [], _∷_}
-use Prim.Native.Nat.{ℕ, zero, suc, _+_, _-_, _*_, _≤_, _<_}
+use Prim.Native.Nat.{ℕ, _*_, _<_}
 use native.Mathlib.Omega.{arith}
-use lib.ListN.{length, getD, set}
+use lib.ListN.{length, set}
 use lib.Dec.{ltb}
-use Rattle.std.specs.declared.option.Option.the-variants.{Some, None}
 use Rattle.std.proofs.shelf.Tests.{cases-bool, cases-lt, lt-ltb, le-ltb, ltb-true, both-ways}
-use Rattle.std.proofs.shelf.Lists.{getD-set-same, getD-past, set-getD}
+use Rattle.std.proofs.shelf.Lists.{getD-set-same}
 use Rattle.orders.specs.declared.money.Cents.{Cents}
 use Rattle.orders.specs.declared.entry.Entry.{Entry}
-use Rattle.orders.specs.declared.entry.Entry.the-variants.{Nothing, Bid, Ask}
+use Rattle.orders.specs.declared.entry.Entry.the-variants.{Nothing}
 use Rattle.ranking.specs.declared.ranked.Side.{Side}
 use Rattle.ranking.specs.declared.ranked.Side.the-variants.{Buyers, Sellers}
 use Rattle.ranking.specs.declared.ranked.Ranked.{Ranked}
 use Rattle.ranking.specs.Ranks.{insert, on-side, ranked}
-use Rattle.clearing.specs.Rule.{cents-of, at-rank, pairs, cleared, trades-in}
-use Rattle.clearing.specs.Kind.{Apart, outcome, number, standing, rank, trades-with}
+use Rattle.clearing.specs.Rule.{cents-of, pairs, cleared, trades-in}
+use Rattle.clearing.specs.Kind.{Apart, outcome, number, standing, trades-with}
 use Rattle.clearing.proofs.Sides.{other, Good, Better, good-or-better, good-same}
-use Rattle.clearing.proofs.Critical.{Falling, Rising, Pairs, Shifted, Case, Never, Critical, critical-price}
+use Rattle.clearing.proofs.Critical.{Falling, Rising, Shifted, Case, Never, Critical, critical-price}
 use Rattle.clearing.proofs.Settling.{bids-of, asks-of, price, pairs-are, clears}
 use Rattle.clearing.proofs.Placing.{place, insert-put}
 use Rattle.clearing.proofs.Rows.{entry, stands, ranked-falls, fellows, partners, own-list, other-list, rank-is-place}

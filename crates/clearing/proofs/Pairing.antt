@@ -8,8 +8,7 @@ use Rattle.std.proofs.shelf.Lists.{getD-map, length-map}
 use Rattle.ranking.specs.declared.ranked.Ranked.{Ranked}
 use Rattle.clearing.specs.Rule.{cents-of, at-rank, pairs, middle-at, half-cents}
 use Rattle.std.specs.declared.option.Option.the-variants.{Some, None}
-use mathlib.Core.Logic.{_⊎_, inl, inr, ⊎-elim}
-use native.Mathlib.Omega.{arith}
+use mathlib.Core.Logic.{_⊎_, inl, inr}
 
 pub pairs-yes : (b a : ℕ) (bids asks : List ℕ) → a ≤ b → pairs (b ∷ bids) (a ∷ asks) ≡ suc (pairs bids asks)
 unfolding pairs

@@ -1,30 +1,27 @@
 -- From ranked lists to rows of entries: what the ranked list of a row holds, and how it changes with one member's entry.
-use mathlib.Core.Path.{_≡_, refl, sym, _∙_, ap, subst}
-use mathlib.Core.Bool.{Bool, true, false, cond}
-use mathlib.Core.Logic.{_⊎_, inl, inr, ⊎-elim}
+use mathlib.Core.Path.{_≡_, refl, sym, _∙_, ap}
+use mathlib.Core.Bool.{cond}
 use mathlib.Core.List.{List, [], _∷_}
-use Prim.Native.Nat.{ℕ, zero, suc, _+_, _-_, _*_, _≤_, _<_}
+use Prim.Native.Nat.{ℕ, zero, suc, _+_, _<_}
 use native.Mathlib.Omega.{arith}
 use native.Mathlib.Nat.{zero-add}
 use lib.ListN.{length, getD, set}
-use lib.Dec.{ltb}
 use Rattle.std.specs.shelf.Lists.{All}
 use Rattle.std.specs.declared.option.Option.{Option}
 use Rattle.std.specs.declared.option.Option.the-variants.{Some, None}
-use Rattle.std.proofs.shelf.Elements.{all-weaker, all-getD}
-use Rattle.std.proofs.shelf.Lists.{length-set, getD-set-same, getD-set-other}
+use Rattle.std.proofs.shelf.Elements.{all-weaker}
+use Rattle.std.proofs.shelf.Lists.{length-set, getD-set-same}
 use Rattle.orders.specs.declared.money.Cents.{Cents}
 use Rattle.orders.specs.declared.entry.Entry.{Entry}
 use Rattle.orders.specs.declared.entry.Entry.the-variants.{Nothing, Bid, Ask}
 use Rattle.ranking.specs.declared.ranked.Side.{Side}
 use Rattle.ranking.specs.declared.ranked.Side.the-variants.{Buyers, Sellers}
 use Rattle.ranking.specs.declared.ranked.Ranked.{Ranked}
-use Rattle.ranking.specs.Ranks.{before, insert, on-side, entered, ranked-from, ranked}
-use Rattle.clearing.specs.Rule.{cents-of, at-rank, pairs, cleared, trades-in}
-use Rattle.clearing.specs.Kind.{Apart, outcome, number, standing, one-before, before-from, rank, trades-with}
+use Rattle.ranking.specs.Ranks.{insert, on-side, entered, ranked-from, ranked}
+use Rattle.clearing.specs.Rule.{cents-of}
+use Rattle.clearing.specs.Kind.{Apart, number, standing, one-before, before-from, rank}
 use Rattle.clearing.proofs.Sides.{other}
-use Rattle.clearing.proofs.Critical.{Falling, Rising, Shifted, Case}
-use Rattle.clearing.proofs.Settling.{bids-of, asks-of, price, pairs-are, clears}
+use Rattle.clearing.proofs.Critical.{Falling}
 use Rattle.clearing.proofs.Placing.{place, count-before, Ordered, Differ, insert-put, insert-ordered, insert-comm, all-insert, place-counts, count-insert, put-falls, before-itself}
 
 -- no two entries of a row whose first is member m's have one tie number

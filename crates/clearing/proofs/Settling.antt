@@ -1,21 +1,18 @@
 -- What the definitions of pairs and of the outcome say, in facts that the theory takes up from either side.
-use mathlib.Core.Path.{_≡_, refl, sym, _∙_, ap, subst}
-use mathlib.Core.Bool.{Bool, true, false, cond, _&&_}
-use mathlib.Core.Logic.{_⊎_, inl, inr, ⊎-elim}
+use mathlib.Core.Path.{_≡_, refl, sym, ap, subst}
+use mathlib.Core.Logic.{_⊎_, inl, inr}
 use mathlib.Core.List.{List, [], _∷_}
-use Prim.Native.Nat.{ℕ, zero, suc, _+_, _-_, _*_, _≤_, _<_}
+use Prim.Native.Nat.{ℕ, zero, suc, _+_, _*_, _≤_, _<_}
 use native.Mathlib.Omega.{arith}
-use lib.ListN.{length, getD}
+use lib.ListN.{length}
 use lib.Dec.{leb, eqb}
-use Rattle.std.specs.declared.option.Option.{Option}
-use Rattle.std.specs.declared.option.Option.the-variants.{Some, None}
+use Rattle.std.specs.declared.option.Option.the-variants.{Some}
 use Rattle.std.proofs.shelf.Tests.{cases-lt, le-leb, leb-true, eqb-true, eqb-false, and-from, and-parts, cond-both, both-ways}
-use Rattle.orders.specs.declared.money.HalfCents.{HalfCents}
 use Rattle.ranking.specs.declared.ranked.Side.{Side}
 use Rattle.ranking.specs.declared.ranked.Side.the-variants.{Buyers, Sellers}
 use Rattle.clearing.specs.declared.outcome.Outcome.{Outcome}
-use Rattle.clearing.specs.declared.outcome.Outcome.the-variants.{NoTrade, OnePrice, TwoPrices}
-use Rattle.clearing.specs.Rule.{at-rank, pairs, between, half-cents, middle-at, all-but-last, settled, outcome-of, cleared, trades-in, buyers-pay, sellers-get}
+use Rattle.clearing.specs.declared.outcome.Outcome.the-variants.{NoTrade}
+use Rattle.clearing.specs.Rule.{at-rank, pairs, between, half-cents, all-but-last, settled, outcome-of, cleared, trades-in, buyers-pay, sellers-get}
 use Rattle.clearing.proofs.Pairing.{pairs-yes, pairs-no, pairs-no-bids, pairs-no-asks, middle-there, middle-missing}
 use native.Mathlib.Nat.{add-comm}
 use Rattle.clearing.proofs.Sides.{other, good-same, good-turned}

@@ -1,13 +1,11 @@
 -- Ranks over rows: a member's place in the ranked list of its side is how many come before it.
 use mathlib.Core.Path.{_≡_, refl, sym, _∙_, ap, subst}
-use mathlib.Core.Bool.{Bool, true, false, cond}
-use mathlib.Core.Logic.{_⊎_, inl, inr, ⊎-elim}
+use mathlib.Core.Bool.{true, cond}
+use mathlib.Core.Logic.{inl, inr}
 use mathlib.Core.List.{List, [], _∷_}
-use Prim.Native.Nat.{ℕ, zero, suc, _+_, _-_, _*_, _≤_, _<_}
+use Prim.Native.Nat.{ℕ, suc, _+_, _<_}
 use native.Mathlib.Omega.{arith}
 use lib.ListN.{length, getD, set}
-use lib.Dec.{ltb, eqb}
-use Rattle.std.specs.shelf.Lists.{All, countBy}
 use Rattle.std.specs.Options.{isSome}
 use Rattle.std.specs.declared.option.Option.{Option}
 use Rattle.std.specs.declared.option.Option.the-variants.{Some, None}
@@ -15,18 +13,15 @@ use Rattle.std.proofs.shelf.Elements.{all-getD}
 use Rattle.std.proofs.shelf.Lists.{getD-past, set-getD}
 use Rattle.std.proofs.shelf.Sums.{sumBy-cons}
 use Rattle.std.proofs.shelf.Tests.{cases-lt, cases-order, both-ways}
-use Rattle.std.proofs.shelf.Ways.{tells}
 use Rattle.orders.specs.declared.money.Cents.{Cents}
 use Rattle.orders.specs.declared.entry.Entry.{Entry}
 use Rattle.orders.specs.declared.entry.Entry.the-variants.{Nothing, Bid, Ask}
 use Rattle.ranking.specs.declared.ranked.Side.{Side}
 use Rattle.ranking.specs.declared.ranked.Side.the-variants.{Buyers, Sellers}
 use Rattle.ranking.specs.declared.ranked.Ranked.{Ranked}
-use Rattle.ranking.specs.Ranks.{before, insert, on-side, entered, ranked-from, ranked}
-use Rattle.clearing.specs.Rule.{cents-of, at-rank}
+use Rattle.ranking.specs.Ranks.{before, on-side, entered, ranked-from, ranked}
 use Rattle.clearing.specs.Kind.{Apart, number, stands-on, how-many, standing, rank}
 use Rattle.clearing.specs.Statements.{Ranks-of}
-use Rattle.clearing.proofs.Pairing.{cents-at}
 use Rattle.clearing.proofs.Placing.{place, before-itself, before-not-back, length-insert, at-place, ordered-at}
 use Rattle.clearing.proofs.Rows.{entry, InRow, ranked-in-row, ranked-ordered, fellows, own-list, rank-is-place}
 
@@ -110,6 +105,14 @@ module _ (s : Side) (tie : ℕ → ℕ) (row : List Entry) (a : Apart tie row) w
             [ inl l ↦ absurd (not-twice x j k d l lk ej ek) | inr l ↦ absurd (not-twice x k j d l lj ek ej) ]
       ]
 
+  -- the member at a place has that rank
+  pub rank-at : (k : ℕ) (d : Ranked) → k < length (ranked s tie row) → rank s tie row (getD (ranked s tie row) k d) ≡ k
+  rank-at k d l =
+      let y : Ranked = getD (ranked s tie row) k d in
+      let h = all-getD (InRow s row) (ranked s tie row) k d l (ranked-in-row s tie row) in
+      let p = placed-at (y .member) (y .cents) (h .1) d in
+      one-place y _ k d (p .0) l (p .1) refl
+
 entered-length : (s : Side) (tie : ℕ → ℕ) (m : ℕ) (o : Option Cents) (xs : List Ranked) →
     length (entered s tie m o xs) ≡ cond (isSome o) 1 0 + length xs
 entered-length s tie m None xs = omega arith
@@ -148,5 +151,4 @@ ranks-of s tie row a =
     filled r l =
         let y : Ranked = getD (ranked s tie row) r zeroth in
         let h = all-getD (InRow s row) (ranked s tie row) r zeroth l (ranked-in-row s tie row) in
-        let p = placed-at s tie row a (y .member) (y .cents) (h .1) zeroth in
-        (y .member, y .cents, h .1, one-place s tie row a y _ r zeroth (p .0) l (p .1) refl)
+        (y .member, y .cents, h .1, rank-at s tie row a r zeroth l)

@@ -1,11 +1,11 @@
 -- The statements, proved.
 use mathlib.Core.Path.{_≡_, refl, sym, _∙_, ap, subst}
-use mathlib.Core.Bool.{Bool, true, false}
+use mathlib.Core.Bool.{true, false}
 use mathlib.Core.Logic.{_⊎_, inl, inr}
-use mathlib.Core.List.{List, [], _∷_, map}
-use Prim.Native.Nat.{ℕ, _+_, _*_, _≤_, _<_}
+use mathlib.Core.List.{List, [], _∷_}
+use Prim.Native.Nat.{ℕ, _*_, _≤_, _<_}
 use native.Mathlib.Omega.{arith}
-use lib.ListN.{length, getD, set}
+use lib.ListN.{set}
 use lib.Dec.{ltb}
 use Rattle.std.specs.declared.option.Option.the-variants.{Some}
 use Rattle.std.proofs.shelf.Tests.{lt-ltb, ltb-true, ltb-false, eq-eqb, and-from, or-left, or-right}
@@ -14,7 +14,7 @@ use Rattle.orders.specs.declared.entry.Entry.{Entry}
 use Rattle.ranking.specs.declared.ranked.Side.{Side}
 use Rattle.ranking.specs.declared.ranked.Side.the-variants.{Buyers, Sellers}
 use Rattle.ranking.specs.declared.ranked.Ranked.{Ranked}
-use Rattle.ranking.specs.Ranks.{own, before, insert, on-side, ranked-from, ranked}
+use Rattle.ranking.specs.Ranks.{own, insert, on-side, ranked-from, ranked}
 use Rattle.clearing.specs.Rule.{cents-of, pairs, cleared, trades-in}
 use Rattle.clearing.specs.Kind.{Apart, bids, asks, outcome, number, standing, rank, trades-with}
 use Rattle.clearing.specs.Matching.{Match}

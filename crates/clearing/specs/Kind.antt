@@ -2,12 +2,13 @@
 -- numbers, in the order of ranks, give the outcome. A member's rank is how many of its side come before it; it trades if
 -- that is below the number of trades. Equal numbers go by a tie number of the member, of which no two are the same.
 use mathlib.Core.Path.{_≡_}
-use mathlib.Core.Bool.{Bool, true, false, cond}
+use mathlib.Core.Bool.{Bool, false, cond}
 use mathlib.Core.List.{List, [], _∷_}
 use Prim.Native.Nat.{ℕ, suc, _+_, _<_}
 use lib.Dec.{ltb}
 use lib.ListN.{length, getD, set}
 use Rattle.std.specs.Options.{isSome}
+use Rattle.std.specs.Iters.{counting}
 use Rattle.std.specs.shelf.Lists.{countBy}
 use Rattle.std.specs.declared.option.Option.{Option}
 use Rattle.std.specs.declared.option.Option.the-variants.{Some, None}
@@ -81,6 +82,9 @@ pays tie row = buyers-pay (outcome tie row)
 
 abbrev pub gets : (ℕ → ℕ) → List Entry → ℕ
 gets tie row = sellers-get (outcome tie row)
+
+abbrev pub members : List Entry → List ℕ
+members row = counting 0 (length row)
 
 -- the row with another entry of member i
 abbrev pub with-bid : List Entry → ℕ → Cents → List Entry

@@ -1,7 +1,7 @@
 -- A matching pairs buyers with sellers of a row in any way at all, no member twice. Its gain is the sum of its bids less
 -- the sum of its asks.
 use mathlib.Core.Path.{_≡_}
-use mathlib.Core.Bool.{Bool, true}
+use mathlib.Core.Bool.{true}
 use mathlib.Core.List.{List, [], _∷_, map}
 use Prim.Native.Nat.{ℕ, _*_, _≤_}
 use lib.ListN.{getD}
@@ -11,7 +11,6 @@ use Rattle.std.specs.declared.option.Option.the-variants.{Some, None}
 use Rattle.orders.specs.declared.money.Cents.{Cents}
 use Rattle.orders.specs.declared.entry.Entry.{Entry}
 use Rattle.orders.specs.declared.entry.Entry.the-variants.{Nothing}
-use Rattle.ranking.specs.declared.ranked.Side.{Side}
 use Rattle.ranking.specs.declared.ranked.Side.the-variants.{Buyers, Sellers}
 use Rattle.clearing.specs.Kind.{number, stands-on}
 

@@ -3,7 +3,7 @@
 -- the bid of the last pair, ends allowed. If it serves, all pairs trade at it. Otherwise all but the last pair trade:
 -- buyers pay the last pair's bid, sellers get its ask, and the rest goes to the fund. Where nothing trades, prices are
 -- 0. Bids and asks are in cents and prices in half cents, so that half a sum of cents is that sum in half cents.
-use mathlib.Core.Bool.{Bool, true, false, _&&_, cond}
+use mathlib.Core.Bool.{Bool, _&&_, cond}
 use mathlib.Core.List.{List, [], _∷_, map}
 use Prim.Native.Nat.{ℕ, zero, suc, _+_, _-_, _*_, _^_}
 use lib.Dec.{ltb, leb, eqb}

@@ -2,12 +2,12 @@
 -- cents and prices in half cents, so a number of cents is doubled before it is compared with a price. The tie number of
 -- a member is a parameter, of which no two members of the row have the same.
 use mathlib.Core.Path.{_≡_}
-use mathlib.Core.Bool.{Bool, true, false}
+use mathlib.Core.Bool.{true, false}
 use mathlib.Core.Logic.{_⊎_}
 use mathlib.Core.List.{List, map}
 use Prim.Native.Nat.{ℕ, _+_, _*_, _≤_, _<_}
 use lib.ListN.{length, getD, take}
-use Rattle.std.specs.shelf.Lists.{All, sum}
+use Rattle.std.specs.shelf.Lists.{All, sum, countBy}
 use Rattle.std.specs.declared.option.Option.the-variants.{Some}
 use Rattle.orders.specs.declared.money.Cents.{Cents}
 use Rattle.orders.specs.declared.entry.Entry.{Entry}
@@ -18,7 +18,7 @@ use Rattle.ranking.specs.declared.ranked.Ranked.{Ranked}
 use Rattle.ranking.specs.Ranks.{own, ranked}
 use Rattle.clearing.specs.declared.outcome.Outcome.{Outcome}
 use Rattle.clearing.specs.Rule.{at-rank, cleared, trades-in, buyers-pay, sellers-get, fund-gets}
-use Rattle.clearing.specs.Kind.{Apart, bids, asks, pairs-in, outcome, number, how-many, standing, rank, buys, sells, pays, gets, buys-with, pays-with, sells-with, gets-with}
+use Rattle.clearing.specs.Kind.{Apart, bids, asks, pairs-in, outcome, number, how-many, standing, rank, buys, sells, pays, gets, members, buys-with, pays-with, sells-with, gets-with}
 use Rattle.clearing.specs.Matching.{Match, Matching, Gains, At-price, all-bids, all-asks}
 use Rattle.clearing.specs.Evenings.{evenings, by-rule}
 
@@ -154,6 +154,15 @@ pub record Balanced (o : Outcome) : Type 0 where
 
 abbrev pub Fund-never-pays : Type 0
 Fund-never-pays = (bs as′ : List ℕ) → Balanced (cleared bs as′)
+
+-- As many members buy as there are trades, and as many sell.
+abbrev pub As-many-buy : Type 0
+As-many-buy =
+    (tie : ℕ → ℕ) (row : List Entry) → Apart tie row → countBy (buys tie row) (members row) ≡ trades-in (outcome tie row)
+
+abbrev pub As-many-sell : Type 0
+As-many-sell =
+    (tie : ℕ → ℕ) (row : List Entry) → Apart tie row → countBy (sells tie row) (members row) ≡ trades-in (outcome tie row)
 
 -- 7. WHAT IS LEFT. All pairs trade, or all but one.
 abbrev pub All-but-one : Type 0

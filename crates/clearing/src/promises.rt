@@ -1,5 +1,5 @@
 // What the rule promises. The contract of each function here is a theorem, and the function does nothing else.
-ghost use Rattle.clearing.specs.Statements.{Ranks, Higher-bid-first, Lower-ask-first, Tie-rule, Lower-member-first, Pairs-first, True-bids, True-asks, Critical-bid, Critical-ask, Bid-moves-no-price, Ask-moves-no-price, Pays-at-most-bid, Gets-at-least-ask, Fund-never-pays, All-but-one, Least-left, No-two-left, Left-gain-least, Greatest-gain, Most-at-one-price, More-may-gain, Evenings-told};
+ghost use Rattle.clearing.specs.Statements.{Ranks, Higher-bid-first, Lower-ask-first, Tie-rule, Lower-member-first, Pairs-first, True-bids, True-asks, Critical-bid, Critical-ask, Bid-moves-no-price, Ask-moves-no-price, Pays-at-most-bid, Gets-at-least-ask, Fund-never-pays, As-many-buy, As-many-sell, All-but-one, Least-left, No-two-left, Left-gain-least, Greatest-gain, Most-at-one-price, More-may-gain, Evenings-told};
 
 // A rank is how many come before; no two have the same, and none is empty.
 pub fn ranks()
@@ -74,6 +74,16 @@ pub fn gets_at_least_ask()
 // What buyers pay is what sellers get and what the fund gets.
 pub fn fund_never_pays()
     ensures { λ _. ⌜ Fund-never-pays ⌝ }
+{}
+
+// As many members buy as there are trades.
+pub fn as_many_buy()
+    ensures { λ _. ⌜ As-many-buy ⌝ }
+{}
+
+// And as many sell.
+pub fn as_many_sell()
+    ensures { λ _. ⌜ As-many-sell ⌝ }
 {}
 
 // All pairs trade, or all but one.

@@ -1,5 +1,5 @@
 -- What was counted and the pairs of what is left are the pairs of the whole.
-use Prim.Native.Nat.{_+_, _≤_}
+use Prim.Native.Nat.{_+_}
 use mathlib.Core.Path.{_≡_}
 use lib.ListN.{length}
 use Rattle.std.specs.Parts.{zip-first, zip-second, iter-rest}
