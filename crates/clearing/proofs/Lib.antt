@@ -1,5 +1,7 @@
 pub mod AsMany
+pub mod Bounds
 pub mod Critical
+pub mod FirstRanks
 pub mod Matchings
 pub mod OwnNumber
 pub mod Pairing

@@ -12,7 +12,7 @@ use Rattle.ranking.specs.declared.ranked.Side.{Side}
 use Rattle.ranking.specs.declared.ranked.Side.the-variants.{Buyers, Sellers}
 use Rattle.clearing.specs.declared.outcome.Outcome.{Outcome}
 use Rattle.clearing.specs.declared.outcome.Outcome.the-variants.{NoTrade}
-use Rattle.clearing.specs.Rule.{at-rank, pairs, between, half-cents, all-but-last, settled, outcome-of, cleared, trades-in, buyers-pay, sellers-get}
+use Rattle.clearing.specs.Rule.{at-rank, pairs, serves, half-cents, all-but-last, settled, outcome-of, cleared, trades-in, buyers-pay, sellers-get}
 use Rattle.clearing.proofs.Pairing.{pairs-yes, pairs-no, pairs-no-bids, pairs-no-asks, middle-there, middle-missing}
 use native.Mathlib.Nat.{add-comm}
 use Rattle.clearing.proofs.Sides.{other, good-same, good-turned}
@@ -101,11 +101,11 @@ settles-next bids asks last hb ha =
     let low : ℕ = 2 * at-rank asks last in
     let mid : ℕ = at-rank bids (suc last) + at-rank asks (suc last) in
     let high : ℕ = 2 * at-rank bids last in
-    cond-both (between low mid high) _ _ (λ o. Settled bids asks (suc last) o)
+    cond-both (serves low mid high) _ _ (λ o. Settled bids asks (suc last) o)
     (λ e. let h = and-parts (leb low mid) (leb mid high) e in
     all-pairs last refl
     (record { own = hb; other = ha; over = leb-true low mid (h .0); under = leb-true mid high (h .1) }) refl refl refl)
-    (λ e. settles-but-last bids asks last (λ v. both-ways (between low mid high) e
+    (λ e. settles-but-last bids asks last (λ v. both-ways (serves low mid high) e
     (and-from (leb low mid) (leb mid high) (le-leb low mid (v .over)) (le-leb mid high (v .under)))))
 
 settles-alone : (bids asks : List ℕ) (last : ℕ) → (length bids ≤ suc last) ⊎ (length asks ≤ suc last) →

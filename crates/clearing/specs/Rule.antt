@@ -19,6 +19,7 @@ use Rattle.clearing.specs.declared.outcome.Outcome.the-variants.{NoTrade, OneP
 abbrev pub cents-of : List Ranked → List ℕ
 cents-of xs = map (λ (x : Ranked). x .cents .0) xs
 
+-- how many ranks from 0 up have a bid and an ask that is at most the bid
 unfoldable pub pairs : List ℕ → List ℕ → ℕ
 pairs [] asks = 0
 pairs (b ∷ bids) [] = 0
@@ -36,23 +37,26 @@ abbrev pub middle-at : ℕ → List ℕ → List ℕ → Option HalfCents
 middle-at r bids asks =
     cond (ltb r (length bids) && ltb r (length asks)) (Some (half-cents (at-rank bids r + at-rank asks r))) None
 
-abbrev pub between : ℕ → ℕ → ℕ → Bool
-between low x high = leb low x && leb x high
+-- a price serves if it lies between the last pair's ask and its bid
+abbrev pub serves : ℕ → ℕ → ℕ → Bool
+serves ask price bid = leb ask price && leb price bid
 
--- the trades but the last: none where the last is the only one
+-- all pairs but the last, whose rank is n, at its bid and its ask: nothing, where it is the only one
 abbrev pub all-but-last : ℕ → ℕ → ℕ → Outcome
 all-but-last n bid ask = cond (eqb n 0) NoTrade (TwoPrices n (half-cents bid) (half-cents ask))
 
--- the outcome of the last pair's rank, its bid and its ask in half cents, and the price from the next
+-- the outcome, from the last pair's rank, its bid and its ask in half cents, and the price from the next, if there is one
 abbrev pub settled : ℕ → ℕ → ℕ → Option HalfCents → Outcome
 settled last bid ask None = all-but-last last bid ask
-settled last bid ask (Some price) = cond (between ask (price .0) bid) (OnePrice (suc last) price) (all-but-last last bid ask)
+settled last bid ask (Some price) = cond (serves ask (price .0) bid) (OnePrice (suc last) price) (all-but-last last bid ask)
 
+-- the outcome of so many pairs
 abbrev pub outcome-of : ℕ → List ℕ → List ℕ → Outcome
 outcome-of zero bids asks = NoTrade
 outcome-of (suc last) bids asks =
     settled last (2 * at-rank bids last) (2 * at-rank asks last) (middle-at (suc last) bids asks)
 
+-- the outcome of ranked bids and asks
 abbrev pub cleared : List ℕ → List ℕ → Outcome
 cleared bids asks = outcome-of (pairs bids asks) bids asks
 

@@ -17,7 +17,7 @@ use Rattle.ranking.specs.declared.ranked.Side.the-variants.{Buyers, Sellers}
 use Rattle.ranking.specs.declared.ranked.Ranked.{Ranked}
 use Rattle.ranking.specs.Ranks.{own, ranked}
 use Rattle.clearing.specs.declared.outcome.Outcome.{Outcome}
-use Rattle.clearing.specs.Rule.{at-rank, cleared, trades-in, buyers-pay, sellers-get, fund-gets}
+use Rattle.clearing.specs.Rule.{at-rank, pairs, cleared, trades-in, buyers-pay, sellers-get, fund-gets}
 use Rattle.clearing.specs.Kind.{Apart, bids, asks, pairs-in, outcome, number, how-many, standing, rank, buys, sells, pays, gets, members, buys-with, pays-with, sells-with, gets-with}
 use Rattle.clearing.specs.Matching.{Match, Matching, Gains, At-price, all-bids, all-asks}
 use Rattle.clearing.specs.Evenings.{evenings, by-rule}
@@ -211,6 +211,24 @@ More-may-gain =
 -- 8. THE EVENINGS of the table are by the rule.
 abbrev pub Evenings-told : Type 0
 Evenings-told = map by-rule evenings ≡ evenings
+
+-- 9. ONLY THE FIRST MATTER: one rank past the pairs, of either side, gives the pairs and the outcome.
+abbrev pub Only-the-first : Type 0
+Only-the-first =
+    (bs as′ : List ℕ) (n : ℕ) → pairs bs as′ < n →
+    (pairs (take n bs) (take n as′) ≡ pairs bs as′) × (cleared (take n bs) (take n as′) ≡ cleared bs as′)
+
+-- No number of an outcome is out of bounds: where no bid or ask is above most, no price is above twice that.
+pub record Within (most : ℕ) (bs as′ : List ℕ) (o : Outcome) : Type 0 where
+  pub buyers : trades-in o ≤ length bs
+  pub sellers : trades-in o ≤ length as′
+  pub pay : buyers-pay o ≤ 2 * most
+  pub get : sellers-get o ≤ 2 * most
+  pub fund : fund-gets o ≤ length bs * (2 * most)
+
+abbrev pub Within-bounds : Type 0
+Within-bounds =
+    (most : ℕ) (bs as′ : List ℕ) → All (λ b. b ≤ most) bs → All (λ a. a ≤ most) as′ → Within most bs as′ (cleared bs as′)
 
 -- THE SAME OF A COMPUTED OUTCOME, to the members of a row as they stand in it, each with its true number v: whatever
 -- other number w would trade, v trades too and at the same price, or w would gain nothing; who trades does not lose; and

@@ -1,5 +1,5 @@
 // What the rule promises. The contract of each function here is a theorem, and the function does nothing else.
-ghost use Rattle.clearing.specs.Statements.{Ranks, Higher-bid-first, Lower-ask-first, Tie-rule, Lower-member-first, Pairs-first, True-bids, True-asks, Critical-bid, Critical-ask, Bid-moves-no-price, Ask-moves-no-price, Pays-at-most-bid, Gets-at-least-ask, Fund-never-pays, As-many-buy, As-many-sell, All-but-one, Least-left, No-two-left, Left-gain-least, Greatest-gain, Most-at-one-price, More-may-gain, Evenings-told};
+ghost use Rattle.clearing.specs.Statements.{Ranks, Higher-bid-first, Lower-ask-first, Tie-rule, Lower-member-first, Pairs-first, True-bids, True-asks, Critical-bid, Critical-ask, Bid-moves-no-price, Ask-moves-no-price, Pays-at-most-bid, Gets-at-least-ask, Fund-never-pays, As-many-buy, As-many-sell, All-but-one, Least-left, No-two-left, Left-gain-least, Greatest-gain, Most-at-one-price, More-may-gain, Evenings-told, Only-the-first, Within-bounds};
 
 // A rank is how many come before; no two have the same, and none is empty.
 pub fn ranks()
@@ -124,4 +124,14 @@ pub fn more_may_gain()
 // The evenings of the table are by the rule.
 pub fn evenings_told()
     ensures { λ _. ⌜ Evenings-told ⌝ }
+{}
+
+// One rank past the pairs, of either side, gives the outcome.
+pub fn only_the_first()
+    ensures { λ _. ⌜ Only-the-first ⌝ }
+{}
+
+// No price passes twice the highest number.
+pub fn within_bounds()
+    ensures { λ _. ⌜ Within-bounds ⌝ }
 {}
