@@ -1,0 +1,15 @@
+pub mod AsMany
+pub mod Bounds
+pub mod Critical
+pub mod FirstRanks
+pub mod Matchings
+pub mod OwnNumber
+pub mod Pairing
+pub mod Placing
+pub mod Rows
+pub mod Settling
+pub mod Sides
+pub mod Standing
+pub mod Leftover
+pub mod Theorems
+pub mod Totals

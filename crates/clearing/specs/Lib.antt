@@ -1,0 +1,5 @@
+pub mod Evenings
+pub mod Kind
+pub mod Matching
+pub mod Rule
+pub mod Statements
