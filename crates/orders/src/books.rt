@@ -1,4 +1,5 @@
 // The memory that a caller lends to an evening.
+#[derive(Drop)]
 pub struct Books<'a> {
     // the entries, kind by kind: member m's in kind k is at k × members + m
     pub entries: &'a mut [u32],

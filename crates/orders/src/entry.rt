@@ -4,13 +4,11 @@ ghost use Rattle.orders.specs.Entries.{encoded, decoded, entry-of, bid-in};
 ghost use Rattle.std.specs.Slices.{found};
 ghost use Rattle.std.specs.declared.option.Option.the-variants.{Some};
 use crate::money::Cents;
-use crate::money::CentsDebug;
-use crate::money::CentsPartialEq;
 
 // The sort of an entry stands above its cents.
 const SORT: u32 = 0x100_0000;
 
-#[derive(Clone, Copy, PartialEq, Debug)]
+#[derive(Clone, Copy)]
 pub enum Entry {
     Nothing,
     Bid(Cents),

@@ -3,7 +3,7 @@ ghost use mathlib.Core.Path.{_≡_};
 ghost use Rattle.orders.specs.Refusals.{number, place};
 
 // The parts of the memory that a caller lends.
-#[derive(Clone, Copy, PartialEq, Debug)]
+#[derive(Clone, Copy)]
 pub enum Part {
     Entries,
     Accounts,
@@ -11,7 +11,7 @@ pub enum Part {
     Sheet,
 }
 
-#[derive(Clone, Copy, PartialEq, Debug)]
+#[derive(Clone, Copy)]
 pub enum Refusal {
     // the evening is closed
     Closed,
