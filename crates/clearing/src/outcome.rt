@@ -50,7 +50,7 @@ impl Outcome {
         }
     }
 
-    // What the fund gets; none where it passes 64 bits, which takes more than a hundred million trades.
+    // What the fund gets; none where that passes 64 bits, as it never does for lists of 2,000 members.
     pub fn fund(self) -> Option<HalfCents>
         ensures { λ r. ⌜ r ≡ fitting (fund-gets self) ⌝ }
     {
