@@ -71,6 +71,7 @@ fn hold(rt: &LibcRuntime) -> Result<(), Fault> {
     let mut books = Books {
         entries: memory.entries.as_mut_slice(),
         numbers: memory.numbers.as_mut_slice(),
+        committed: memory.committed.as_mut_slice(),
         accounts: memory.accounts.as_mut_slice(),
         berths: memory.berths.as_mut_slice(),
     };

@@ -8,6 +8,7 @@ use std::alloc::Global;
 pub struct Memory {
     pub entries: Vec<u32>,
     pub numbers: Vec<u32>,
+    pub committed: Vec<u64>,
     pub accounts: Vec<u64>,
     pub berths: Vec<u8>,
     pub answers: Vec<Result<(), Refusal>>,
@@ -20,6 +21,7 @@ impl Memory {
         Ok(Memory {
             entries: vec![in heap; 0u32; slots]?,
             numbers: vec![in heap; 0u32; members]?,
+            committed: vec![in heap; 0u64; members]?,
             accounts: input.half_cents(heap)?,
             berths: input.berths.to_vec(heap)?,
             answers: vec![in heap; Ok(()); input.messages.len().div_ceil(12)]?,

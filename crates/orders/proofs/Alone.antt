@@ -20,7 +20,7 @@ use Rattle.orders.specs.Entries.{encoded}
 use Rattle.orders.specs.Words.{word2}
 use Rattle.orders.specs.Messages.{fields}
 use Rattle.orders.specs.Taking.{Position, ruling, ruling-at}
-use Rattle.orders.specs.Lent.{Held, lacking, position, unless-short, judged, entries-after, numbers-after, answer, held-after}
+use Rattle.orders.specs.Lent.{Held, lacking, position, unless-short, judged, entries-after, numbers-after, committed-after, answer, held-after}
 use Rattle.orders.specs.Members.{is-of, own, own-answers, moved}
 use Rattle.orders.specs.Running.{run, answers-to, written-over}
 use Rattle.orders.specs.Statements.{Alone}
@@ -30,9 +30,9 @@ use Rattle.orders.proofs.Positions.{other-stays, own-moves}
 lacking-after : (K M : ℕ) (h : Held) (m : List ℕ) → lacking K M (held-after K M h m) ≡ lacking K M h
 lacking-after K M h m = go (judged K M h m)
   where
-    go : (r : Result Order Refusal) → lacking K M (record { entries = entries-after M (h .entries) r; numbers = numbers-after (h .numbers) r; accounts = h .accounts; berths = h .berths }) ≡ lacking K M h
+    go : (r : Result Order Refusal) → lacking K M (record { entries = entries-after M (h .entries) r; numbers = numbers-after (h .numbers) r; committed = committed-after (h .committed) r; accounts = h .accounts; berths = h .berths }) ≡ lacking K M h
     go (Err e) = refl
-    go (Ok o) = rw (length-set (h .entries) (o .kind .0 * M + o .member .0) (valueOr (encoded (o .entry)) 0), length-set (h .numbers) (o .member .0) (o .number))
+    go (Ok o) = rw (length-set (h .entries) (o .kind .0 * M + o .member .0) (valueOr (encoded (o .entry)) 0), length-set (h .numbers) (o .member .0) (o .number), length-set (h .committed) (o .member .0) (o .committed .0))
 
 module _ (K M i : ℕ) (within : i < M) where
   -- for member i the two memories are alike

@@ -22,11 +22,12 @@ use Rattle.orders.specs.declared.message.Message.{Message}
 use Rattle.orders.specs.declared.order.Order.{Order}
 use Rattle.orders.specs.declared.refusal.Refusal.{Refusal}
 use Rattle.orders.specs.Range.{in-range}
-use Rattle.orders.specs.Taking.{Position, bids, with-entry, asked, allowed, and-then, order-of, entering, ruling}
-use Rattle.orders.specs.Members.{Backed, Sound, written, Due}
+use Rattle.orders.specs.Taking.{Position, committed-with, asked, allowed, and-then, order-of, entering, ruling}
+use Rattle.orders.specs.Members.{bids, with-entry, Backed, Sound, written, Due}
 use Rattle.orders.specs.Statements.{Taken-when-due}
 use Rattle.orders.proofs.Rulings.{Ordered, ordered, ok-cond, ok-and-then, Asks, for-nothing, for-bid, for-ask, asks-for}
 use Rattle.orders.proofs.Soundness.{allowed-sound}
+use Rattle.orders.proofs.Sums.{committed-kept}
 
 ok-value : {A : Type 0} (r : Result A Refusal) → isOk r ≡ true → (x : A) × (r ≡ Ok x)
 ok-value (Ok x) h = (x, refl)
@@ -42,7 +43,7 @@ due-if-taken K M P m s t = go (asks-for (m .sort) (m .cents) (r .entry) (r .asks
     r = ordered K M P m (got .0) (got .1)
 
     a : (2 * bids (with-entry (P (m .member) .entry) (m .kind) (r .entry)) K ≤ P (m .member) .account) × Backed (r .entry) (P (m .member) .berths (m .kind))
-    a = allowed-sound K (P (m .member)) (m .kind) (r .entry) (s (r .member)) (r .allows)
+    a = allowed-sound K (P (m .member)) (m .kind) (r .entry) (r .kind) (s (r .member)) (r .allows)
 
     covered : r .entry ≡ written m → 2 * bids (with-entry (P (m .member) .entry) (m .kind) (written m)) K ≤ P (m .member) .account
     covered e = subst (λ (x : Entry). 2 * bids (with-entry (P (m .member) .entry) (m .kind) x) K ≤ P (m .member) .account) e (a .0)
@@ -96,6 +97,7 @@ nothing-lacks K M h f =
     rw (
       le-ltb (length (h .entries)) (K * M) (f .entries),
       le-ltb (length (h .numbers)) M (f .numbers),
+      le-ltb (length (h .committed)) M (f .committed),
       le-ltb (length (h .accounts)) M (f .accounts),
       le-ltb (length (h .berths)) (K * M) (f .berths),
     )
@@ -105,11 +107,11 @@ answer-ok (Ok x) = refl
 answer-ok (Err e) = refl
 
 -- an entry that is due is asked for and allowed
-due-entry : (K M : ℕ) (p : Position) (m : Message) → Due K M p m → (asked (m .sort) (m .cents) ≡ Ok (written m)) × (allowed K p (m .kind) (written m) ≡ Ok (written m))
-due-entry K M p m d = ⊎-elim nothing (⊎-elim bid ask) sorts
+due-entry : (K M : ℕ) (p : Position) (m : Message) → Sound K p → Due K M p m → (asked (m .sort) (m .cents) ≡ Ok (written m)) × (allowed p (m .kind) (written m) ≡ Ok (committed-with p (m .kind) (written m)))
+due-entry K M p m s d = ⊎-elim nothing (⊎-elim bid ask) sorts
   where
     Goal : Type 0
-    Goal = (asked (m .sort) (m .cents) ≡ Ok (written m)) × (allowed K p (m .kind) (written m) ≡ Ok (written m))
+    Goal = (asked (m .sort) (m .cents) ≡ Ok (written m)) × (allowed p (m .kind) (written m) ≡ Ok (committed-with p (m .kind) (written m)))
 
     sorts : (m .sort ≡ 0) ⊎ ((m .sort ≡ 1) ⊎ (m .sort ≡ 2))
     sorts = grind (arith, d .sort-is-known)
@@ -117,8 +119,8 @@ due-entry K M p m d = ⊎-elim nothing (⊎-elim bid ask) sorts
     range : 1 ≤ m .sort → in-range (m .cents) ≡ true
     range h = and-from (leb 1 (m .cents)) (leb (m .cents) 10000000) (le-leb 1 (m .cents) (d .cents-least h)) (le-leb (m .cents) 10000000 (d .cents-most h))
 
-    covered : leb (2 * bids (with-entry (p .entry) (m .kind) (written m)) K) (p .account) ≡ true
-    covered = le-leb (2 * bids (with-entry (p .entry) (m .kind) (written m)) K) (p .account) (d .bids-are-covered)
+    covered : leb (committed-with p (m .kind) (written m)) (p .account) ≡ true
+    covered = le-leb (committed-with p (m .kind) (written m)) (p .account) (omega (arith, committed-kept p (m .kind) (written m) K (d .kind-exists) (s .kept), d .bids-are-covered))
 
     nothing : m .sort ≡ 0 → Goal
     nothing z = (rw (z, d .nothing-is-free z), rw z)
@@ -131,9 +133,9 @@ due-entry K M p m d = ⊎-elim nothing (⊎-elim bid ask) sorts
     ask : m .sort ≡ 2 → Goal
     ask z = (rw (z, range (omega arith)), rw (z, lt-ltb 0 (p .berths (m .kind)) (d .ask-is-backed z)))
 
-taken-if-due : (K M : ℕ) (P : ℕ → Position) (m : Message) → Due K M (P (m .member)) m → isOk (ruling K M P m) ≡ true
-taken-if-due K M P m d =
-    let e = due-entry K M (P (m .member)) m d in
+taken-if-due : (K M : ℕ) (P : ℕ → Position) (m : Message) → (m .member < M → Sound K (P (m .member))) → Due K M (P (m .member)) m → isOk (ruling K M P m) ≡ true
+taken-if-due K M P m s d =
+    let e = due-entry K M (P (m .member)) m (s (d .member-exists)) d in
     rw (lt-ltb (m .member) M (d .member-exists), lt-ltb (P (m .member) .last) (m .number) (d .number-is-new), lt-ltb (m .kind) K (d .kind-exists), e .0, e .1)
 
 pub taken-when-due : (K M : ℕ) (h : Held) (bytes : List ℕ) (taken : Bool) → taken ≡ isOk (answer (judged K M h bytes)) → Taken-when-due K M h bytes taken
@@ -159,4 +161,4 @@ taken-when-due K M h bytes taken e f s = decides-at taken (isOk (ruled (message-
         )
 
     back : (length bytes ≡ 12) × Due K M (P (fields bytes .member)) (fields bytes) → isOk (ruled (message-of bytes)) ≡ true
-    back d = rw (eq-eqb (length bytes) 12 (d .0)) (taken-if-due K M P (fields bytes) (d .1))
+    back d = rw (eq-eqb (length bytes) 12 (d .0)) (taken-if-due K M P (fields bytes) (s (fields bytes .member)) (d .1))

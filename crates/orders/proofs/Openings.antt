@@ -16,9 +16,8 @@ use Rattle.orders.specs.declared.refusal.Part.{Part}
 use Rattle.orders.specs.declared.refusal.Refusal.{Refusal}
 use Rattle.orders.specs.declared.refusal.Refusal.the-variants.{Kinds, Members, Account, Fund, Short}
 use Rattle.orders.specs.Entries.{bid-in, entry-of}
-use Rattle.orders.specs.Taking.{bids}
 use Rattle.orders.specs.Lent.{Held, Fits, lacking, position}
-use Rattle.orders.specs.Members.{Backed, Sound}
+use Rattle.orders.specs.Members.{bids, Backed, Sound}
 use Rattle.orders.specs.Opening.{first-over, short-part, account-or, opening}
 use Rattle.orders.specs.Statements.{All-sound}
 use Rattle.orders.proofs.Positions.{fits-from}
@@ -54,9 +53,14 @@ bids-none : (f : ℕ → Entry) (n : ℕ) → ((k : ℕ) → k < n → f k ≡ N
 bids-none f zero h = refl
 bids-none f (suc n) h = omega (arith, bids-none f n (λ k l. h k (omega arith)), ap bid-in (h n (omega arith)))
 
-pub opened-sound : (K M : ℕ) (h : Held) (xs : List ℕ) → h .entries ≡ replicate (K * M) 0 ++ drop (K * M) xs → All-sound K M h
-opened-sound K M h xs e i l =
+getD-emptied : (n i : ℕ) (xs : List ℕ) → i < n → getD (replicate n 0 ++ drop n xs) i 0 ≡ 0
+getD-emptied n i xs l =
+    getD-append-left (replicate n 0) (drop n xs) 0 i (simp length-replicate l) ∙ getD-replicate n i 0 0 l
+
+pub opened-sound : (K M : ℕ) (h : Held) (xs ys : List ℕ) → h .entries ≡ replicate (K * M) 0 ++ drop (K * M) xs → h .committed ≡ replicate M 0 ++ drop M ys → All-sound K M h
+opened-sound K M h xs ys e c i l =
     record {
+      kept = omega (arith, bids-none (position K M h i .entry) K nothing, ap (λ (z : List ℕ). getD z i 0) c ∙ getD-emptied M i ys l);
       covered = omega (arith, bids-none (position K M h i .entry) K nothing);
       backed = λ k q. subst (λ (x : Entry). Backed x (position K M h i .berths k)) (sym (nothing k q)) tt;
     }
@@ -64,8 +68,4 @@ opened-sound K M h xs e i l =
     nothing : (k : ℕ) → k < K → position K M h i .entry k ≡ Nothing
     nothing k q =
         let slot : k * M + i < K * M = omega (arith, mul-add-lt k M i K q l) in
-        let inside : k * M + i < length (replicate (K * M) 0) = simp length-replicate slot in
-        ap entry-of
-        (ap (λ (c : List ℕ). getD c (k * M + i) 0) e
-        ∙ getD-append-left (replicate (K * M) 0) (drop (K * M) xs) 0 (k * M + i) inside
-        ∙ getD-replicate (K * M) (k * M + i) 0 0 slot)
+        ap entry-of (ap (λ (z : List ℕ). getD z (k * M + i) 0) e ∙ getD-emptied (K * M) (k * M + i) xs slot)

@@ -25,9 +25,9 @@ use Rattle.orders.specs.declared.refusal.Refusal.the-variants.{Length, Short}
 use Rattle.orders.specs.Entries.{encoded, entry-of}
 use Rattle.orders.specs.Words.{word2}
 use Rattle.orders.specs.Messages.{fields, message-of}
-use Rattle.orders.specs.Taking.{Position, and-then, with-entry, order-of, ruling}
-use Rattle.orders.specs.Lent.{Held, Fits, lacking, entry-at, position, unless-short, judged, entries-after, numbers-after, held-after}
-use Rattle.orders.specs.Members.{is-of, moved}
+use Rattle.orders.specs.Taking.{Position, and-then, order-of, ruling}
+use Rattle.orders.specs.Lent.{Held, Fits, lacking, entry-at, position, unless-short, judged, entries-after, numbers-after, committed-after, held-after}
+use Rattle.orders.specs.Members.{is-of, with-entry, moved}
 use Rattle.orders.proofs.Codes.{either-cond}
 use Rattle.orders.proofs.Rulings.{Ordered, ordered, ok-cond, ok-and-then, err-is-not-ok, asks-for, coded}
 
@@ -39,13 +39,16 @@ none-cond false x r h = (refl, h)
 pub fits-from : (K M : ℕ) (h : Held) → lacking K M h ≡ None → Fits K M h
 fits-from K M h e =
     let berths = cond (ltb (length (h .berths)) (K * M)) (Some Berths) None in
-    let a = none-cond (ltb (length (h .entries)) (K * M) || ltb (length (h .numbers)) M) Entries (cond (ltb (length (h .accounts)) M) (Some Accounts) berths) e in
+    let beside = ltb (length (h .numbers)) M || ltb (length (h .committed)) M in
+    let a = none-cond (ltb (length (h .entries)) (K * M) || beside) Entries (cond (ltb (length (h .accounts)) M) (Some Accounts) berths) e in
     let b = none-cond (ltb (length (h .accounts)) M) Accounts berths (a .1) in
     let d = none-cond (ltb (length (h .berths)) (K * M)) Berths None (b .1) in
-    let p = or-parts (ltb (length (h .entries)) (K * M)) (ltb (length (h .numbers)) M) (a .0) in
+    let p = or-parts (ltb (length (h .entries)) (K * M)) beside (a .0) in
+    let q = or-parts (ltb (length (h .numbers)) M) (ltb (length (h .committed)) M) (p .1) in
     record {
       entries = ltb-false (length (h .entries)) (K * M) (p .0);
-      numbers = ltb-false (length (h .numbers)) M (p .1);
+      numbers = ltb-false (length (h .numbers)) M (q .0);
+      committed = ltb-false (length (h .committed)) M (q .1);
       accounts = ltb-false (length (h .accounts)) M (b .0);
       berths = ltb-false (length (h .berths)) (K * M) (d .0);
     }
@@ -80,13 +83,13 @@ apart-kinds : (k l i M : ℕ) → i < M → k ≢ l → k * M + i ≢ l * M + i
 apart-kinds k l i M hi d e = d (sym (div-mul-add k M i hi) ∙ ap (λ (n : ℕ). n / M) e ∙ div-mul-add l M i hi)
 
 -- a position in which the entries and the last number are others
-same-position : (K M : ℕ) (h : Held) (i : ℕ) (codes numbers : List ℕ) (p : Position) → p .berths ≡ position K M h i .berths → p .account ≡ position K M h i .account → ((k : ℕ) → entry-at M codes i k ≡ p .entry k) → getD numbers i 0 ≡ p .last → position K M (record { entries = codes; numbers = numbers; accounts = h .accounts; berths = h .berths }) i ≡ p
-same-position K M h i codes numbers p eb ea ee el =
-    λ x. record { entry = λ k. ee k x; berths = sym eb x; account = sym ea x; last = el x }
+same-position : (K M : ℕ) (h : Held) (i : ℕ) (codes numbers committed : List ℕ) (p : Position) → p .berths ≡ position K M h i .berths → p .account ≡ position K M h i .account → ((k : ℕ) → entry-at M codes i k ≡ p .entry k) → getD numbers i 0 ≡ p .last → getD committed i 0 ≡ p .committed → position K M (record { entries = codes; numbers = numbers; committed = committed; accounts = h .accounts; berths = h .berths }) i ≡ p
+same-position K M h i codes numbers committed p eb ea ee el ec =
+    λ x. record { entry = λ k. ee k x; berths = sym eb x; account = sym ea x; last = el x; committed = ec x }
 
 module _ (K M : ℕ) (h : Held) (m : List ℕ) (i : ℕ) (within : i < M) where
   abbrev Left : Result Order Refusal → Held
-  Left r = record { entries = entries-after M (h .entries) r; numbers = numbers-after (h .numbers) r; accounts = h .accounts; berths = h .berths }
+  Left r = record { entries = entries-after M (h .entries) r; numbers = numbers-after (h .numbers) r; committed = committed-after (h .committed) r; accounts = h .accounts; berths = h .berths }
 
   -- another's message leaves the position as it was
   pub other-stays : is-of i m ≡ false → position K M (held-after K M h m) i ≡ position K M h i
@@ -100,9 +103,10 @@ module _ (K M : ℕ) (h : Held) (m : List ℕ) (i : ℕ) (within : i < M) where
           let other : o .member .0 ≢ i =
           λ e. both-ways (is-of i m) no-own (and-from (eqb (length m) 12) (eqb (word2 m 0) i) (eq-eqb (length m) 12 (b .twelve)) (eq-eqb (word2 m 0) i (sym from ∙ e))) in
           let inside : o .member .0 < M = omega (arith, from, b .rule .member) in
-          same-position K M h i (entries-after M (h .entries) (Ok o)) (numbers-after (h .numbers) (Ok o)) (position K M h i) refl refl
+          same-position K M h i (entries-after M (h .entries) (Ok o)) (numbers-after (h .numbers) (Ok o)) (committed-after (h .committed) (Ok o)) (position K M h i) refl refl
           (λ k. ap entry-of (getD-set-other (h .entries) (o .kind .0 * M + o .member .0) (k * M + i) (valueOr (encoded (o .entry)) 0) 0 (apart-members k (o .kind .0) i (o .member .0) M within inside (λ e. other (sym e)))))
           (getD-set-other (h .numbers) (o .member .0) i (o .number) 0 (λ e. other (sym e)))
+          (getD-set-other (h .committed) (o .member .0) i (o .committed .0) 0 (λ e. other (sym e)))
 
   -- one's own leaves what its order says
   pub own-moves : is-of i m ≡ true → position K M (held-after K M h m) i ≡ moved (position K M h i) (judged K M h m)
@@ -124,6 +128,7 @@ module _ (K M : ℕ) (h : Held) (m : List ℕ) (i : ℕ) (within : i < M) where
           λ k e. rw (e, eq-eqb (o .kind .0) (o .kind .0) refl) (ap entry-of (getD-set-same (h .entries) (o .kind .0 * M + i) code 0 slot) ∙ read) in
           let there : (k : ℕ) → (k ≡ o .kind .0 → ⊥) → entry-at M (set (h .entries) (o .kind .0 * M + i) code) i k ≡ with-entry (entry-at M (h .entries) i) (o .kind .0) (o .entry) k =
           λ k d. rw (ne-eqb k (o .kind .0) d) (ap entry-of (getD-set-other (h .entries) (o .kind .0 * M + i) (k * M + i) code 0 (apart-kinds k (o .kind .0) i M within d))) in
-          same-position K M h i (entries-after M (h .entries) (Ok o)) (numbers-after (h .numbers) (Ok o)) (moved (position K M h i) (Ok o)) refl refl
+          same-position K M h i (entries-after M (h .entries) (Ok o)) (numbers-after (h .numbers) (Ok o)) (committed-after (h .committed) (Ok o)) (moved (position K M h i) (Ok o)) refl refl
           (λ k. ap (λ (n : ℕ). entry-at M (set (h .entries) (o .kind .0 * M + n) code) i k) from ∙ ⊎-elim (here k) (there k) (cases-eq k (o .kind .0)))
           (ap (λ (n : ℕ). getD (set (h .numbers) n (o .number)) i 0) from ∙ getD-set-same (h .numbers) i (o .number) 0 (omega (arith, b .fits .numbers)))
+          (ap (λ (n : ℕ). getD (set (h .committed) n (o .committed .0)) i 0) from ∙ getD-set-same (h .committed) i (o .committed .0) 0 (omega (arith, b .fits .committed)))

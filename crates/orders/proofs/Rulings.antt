@@ -1,25 +1,28 @@
 -- What an order that a message is judged to be says of the message.
-use mathlib.Core.Path.{_≡_, refl, sym, _∙_, ap}
+use mathlib.Core.Path.{_≡_, refl, sym, _∙_, ap, subst}
 use mathlib.Core.Bool.{Bool, true, false, cond}
 use Prim.Native.Nat.{ℕ, _+_, _*_, _<_}
 use native.Mathlib.Omega.{arith}
 use lib.Dec.{ltb, leb, eqb}
 use mathlib.Core.Logic.{⊎-elim}
-use Rattle.std.proofs.shelf.Tests.{ltb-true, eqb-true}
+use Rattle.std.proofs.shelf.Tests.{ltb-true, lt-ltb, eqb-true}
 use Rattle.std.specs.Options.{valueOr}
 use Rattle.std.specs.declared.option.Option.{Option}
+use Rattle.std.specs.declared.option.Option.the-variants.{Some, None}
 use Rattle.orders.specs.Range.{in-range}
 use Rattle.orders.specs.Entries.{encoded, entry-of}
-use Rattle.orders.proofs.Codes.{either-cond, encode-decode}
+use Rattle.orders.proofs.Codes.{either-cond, some-cond, encode-decode}
 use Rattle.std.specs.declared.result.Result.{Result}
 use Rattle.std.specs.declared.result.Result.the-variants.{Ok, Err}
 use Rattle.orders.specs.declared.entry.Entry.{Entry}
 use Rattle.orders.specs.declared.entry.Entry.the-variants.{Nothing, Bid, Ask}
 use Rattle.orders.specs.declared.message.Message.{Message}
+use Rattle.orders.specs.declared.order.Kind.{Kind}
+use Rattle.orders.specs.declared.order.Member.{Member}
 use Rattle.orders.specs.declared.order.Order.{Order}
 use Rattle.orders.specs.declared.refusal.Refusal.{Refusal}
 use Rattle.orders.specs.declared.refusal.Refusal.the-variants.{NoMember, OldNumber, NoKind, NoSort, OutOfRange, Uncovered, Full, Unbacked}
-use Rattle.orders.specs.Taking.{Position, bids, with-entry, asked, allowed, and-then, order-of, entering, ruling-at, ruling}
+use Rattle.orders.specs.Taking.{Position, committed-with, asked, allowed, and-then, order-of, entering, ruling-at, ruling}
 
 pub err-is-not-ok : {A : Type 0} (e : Refusal) (x : A) → _≡_ {A = Result A Refusal} (Err e) (Ok x) → ⊥
 err-is-not-ok e x h = let z : _≡_ {A = ℕ} 0 1 = cc in omega arith
@@ -77,6 +80,20 @@ coded sort cents e (for-nothing s c p) = rw p
 coded sort cents e (for-bid s c p) = rw (p, c) (ap (λ (o : Option Entry). valueOr o Nothing) (encode-decode (Bid (record { 0 = cents })) (16777216 + cents) (rw c)))
 coded sort cents e (for-ask s c p) = rw (p, c) (ap (λ (o : Option Entry). valueOr o Nothing) (encode-decode (Ask (record { 0 = cents })) (33554432 + cents) (rw c)))
 
+-- what is allowed is what is bid with the entry
+allowed-sum : (p : Position) (k : ℕ) (e : Entry) (c : ℕ) → allowed p k e ≡ Ok c → c ≡ committed-with p k e
+allowed-sum p k Nothing c h = cc
+allowed-sum p k (Bid b) c h =
+    let x = committed-with p k (Bid b) in
+    let d = ok-cond (leb x (p .account)) (cond (ltb (p .berths k) 255) (Ok x) (Err Full)) Uncovered c h in
+    let f = ok-cond (ltb (p .berths k) 255) (Ok x) Full c (d .1) in
+    let q = f .1 in
+    cc
+allowed-sum p k (Ask b) c h =
+    let d = ok-cond (ltb 0 (p .berths k)) (Ok (committed-with p k (Ask b))) Unbacked c h in
+    let q = d .1 in
+    cc
+
 -- an order stands behind each test of the rule
 pub record Ordered (K M : ℕ) (P : ℕ → Position) (m : Message) (o : Order) : Type 0 where
   pub member : m .member < M
@@ -84,26 +101,18 @@ pub record Ordered (K M : ℕ) (P : ℕ → Position) (m : Message) (o : Order) 
   pub kind : m .kind < K
   pub entry : Entry
   pub asks : asked (m .sort) (m .cents) ≡ Ok entry
-  pub allows : allowed K (P (m .member)) (m .kind) entry ≡ Ok entry
-  pub same : o ≡ order-of m entry
-
-allowed-same : (K : ℕ) (p : Position) (k : ℕ) (e a : Entry) → allowed K p k e ≡ Ok a → a ≡ e
-allowed-same K p k Nothing a h = cc
-allowed-same K p k (Bid c) a h =
-    let b = ok-cond (leb (2 * bids (with-entry (p .entry) k (Bid c)) K) (p .account)) (cond (ltb (p .berths k) 255) (Ok (Bid c)) (Err Full)) Uncovered a h in
-    let d = ok-cond (ltb (p .berths k) 255) (Ok (Bid c)) Full a (b .1) in
-    let q = d .1 in cc
-allowed-same K p k (Ask c) a h = let b = ok-cond (ltb 0 (p .berths k)) (Ok (Ask c)) Unbacked a h in let q = b .1 in cc
+  pub allows : allowed (P (m .member)) (m .kind) entry ≡ Ok (committed-with (P (m .member)) (m .kind) entry)
+  pub same : o ≡ order-of m entry (committed-with (P (m .member)) (m .kind) entry)
 
 pub ordered : (K M : ℕ) (P : ℕ → Position) (m : Message) (o : Order) → ruling K M P m ≡ Ok o → Ordered K M P m o
 ordered K M P m o h =
     let p = P (m .member) in
     let a = ok-cond (ltb (m .member) M) (ruling-at K p m) NoMember o h in
-    let b = ok-cond (ltb (p .last) (m .number)) (cond (ltb (m .kind) K) (entering K p m) (Err NoKind)) OldNumber o (a .1) in
-    let d = ok-cond (ltb (m .kind) K) (entering K p m) NoKind o (b .1) in
-    let e = ok-and-then (asked (m .sort) (m .cents)) (λ e. and-then (allowed K p (m .kind) e) (λ a. Ok (order-of m a))) o (d .1) in
-    let g = ok-and-then (allowed K p (m .kind) (e .0)) (λ a. Ok (order-of m a)) o (e .2) in
-    let is : g .0 ≡ e .0 = allowed-same K p (m .kind) (e .0) (g .0) (g .1) in
+    let b = ok-cond (ltb (p .last) (m .number)) (cond (ltb (m .kind) K) (entering p m) (Err NoKind)) OldNumber o (a .1) in
+    let d = ok-cond (ltb (m .kind) K) (entering p m) NoKind o (b .1) in
+    let e = ok-and-then (asked (m .sort) (m .cents)) (λ e. and-then (allowed p (m .kind) e) (λ c. Ok (order-of m e c))) o (d .1) in
+    let g = ok-and-then (allowed p (m .kind) (e .0)) (λ c. Ok (order-of m (e .0) c)) o (e .2) in
+    let is : g .0 ≡ committed-with p (m .kind) (e .0) = allowed-sum p (m .kind) (e .0) (g .0) (g .1) in
     let last = g .2 in
     record {
       member = ltb-true (m .member) M (a .0);
@@ -111,11 +120,22 @@ ordered K M P m o h =
       kind = ltb-true (m .kind) K (d .0);
       entry = e .0;
       asks = e .1;
-      allows = g .1 ∙ ap (λ (x : Entry). Ok x) is;
+      allows = g .1 ∙ ap (λ (x : ℕ). Ok x) is;
       same = cc;
     }
 
 pub order-within : (K M : ℕ) (P : ℕ → Position) (m : Message) (o : Order) → ruling K M P m ≡ Ok o → (o .member .0 < M) × (o .kind .0 < K)
 order-within K M P m o h =
-    let r = ordered K M P m o h in
-    (omega (arith, r .member, ap (λ (q : Order). q .member .0) (r .same)), omega (arith, r .kind, ap (λ (q : Order). q .kind .0) (r .same)))
+    let r = ordered K M P m o h in (
+      omega (arith, r .member, ap (λ (q : Order). q .member .0) (r .same)),
+      omega (arith, r .kind, ap (λ (q : Order). q .kind .0) (r .same)),
+    )
+
+-- a message whose member and kind exist, with a new number
+pub ruled : (K M : ℕ) (P : ℕ → Position) (m : Message) (i : Member) (k : Kind) → Some i ≡ cond (ltb (m .member) M) (Some (record { 0 = m .member })) None → P (i .0) .last < m .number → Some k ≡ cond (ltb (m .kind) K) (Some (record { 0 = m .kind })) None → entering (P (i .0)) m ≡ ruling K M P m
+ruled K M P m i k h newer l =
+    let a = some-cond (ltb (m .member) M) (record { 0 = m .member }) i (sym h) in
+    let b = some-cond (ltb (m .kind) K) (record { 0 = m .kind }) k (sym l) in
+    let same : i .0 ≡ m .member = ap (λ (x : Member). x .0) (sym (a .1)) in
+    let new : ltb (P (m .member) .last) (m .number) ≡ true = lt-ltb (P (m .member) .last) (m .number) (subst (λ (n : ℕ). P n .last < m .number) same newer) in
+    ap (λ (n : ℕ). entering (P n) m) same ∙ rw (a .0, new, b .0)

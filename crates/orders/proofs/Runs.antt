@@ -48,6 +48,7 @@ same-loans a b c p q =
     record {
       entries = q .entries ∙ p .entries;
       numbers = q .numbers ∙ p .numbers;
+      committed = q .committed ∙ p .committed;
       accounts = q .accounts ∙ p .accounts;
       berths = q .berths ∙ p .berths;
     }

@@ -17,55 +17,48 @@ use Rattle.orders.specs.declared.order.Order.{Order}
 use Rattle.orders.specs.declared.refusal.Refusal.{Refusal}
 use Rattle.orders.specs.declared.refusal.Refusal.the-variants.{Uncovered, Full, Unbacked}
 use Rattle.orders.specs.Entries.{bid-in}
-use Rattle.orders.specs.Taking.{Position, bids, with-entry, allowed, order-of}
+use Rattle.orders.specs.Taking.{Position, committed-with, allowed, order-of}
 use Rattle.orders.specs.Words.{word2}
 use Rattle.orders.specs.Messages.{fields}
 use Rattle.orders.specs.Lent.{Held, position, judged, held-after}
-use Rattle.orders.specs.Members.{is-of, moved, Backed, Sound}
+use Rattle.orders.specs.Members.{is-of, bids, with-entry, moved, Backed, Sound}
 use Rattle.orders.specs.Running.{run}
 use Rattle.orders.specs.Statements.{All-sound}
 use Rattle.orders.proofs.Positions.{judged-ok, other-stays, own-moves}
 use Rattle.orders.proofs.Rulings.{Ordered, ok-cond}
-use Rattle.orders.proofs.Sums.{with-entry-at, with-entry-off}
-
--- an entry that bids nothing raises no sum of bids
-bids-no-more : (f : ℕ → Entry) (k : ℕ) (e : Entry) (n : ℕ) → bid-in e ≡ 0 → bids (with-entry f k e) n ≤ bids f n
-bids-no-more f k e zero h = omega arith
-bids-no-more f k e (suc n) h = go (bids-no-more f k e n h)
-  where
-    go : bids (with-entry f k e) n ≤ bids f n → bids (with-entry f k e) (suc n) ≤ bids f (suc n)
-    go rest =
-        ⊎-elim (λ q. omega (arith, ap bid-in (with-entry-at f k e n q))) (λ d. omega (arith, ap bid-in (with-entry-off f k e n d)))
-        (cases-eq n k)
+use Rattle.orders.proofs.Sums.{with-entry-at, with-entry-off, committed-kept}
 
 -- what is allowed is covered and backed
-pub allowed-sound : (K : ℕ) (p : Position) (k : ℕ) (e : Entry) → Sound K p → allowed K p k e ≡ Ok e → (2 * bids (with-entry (p .entry) k e) K ≤ p .account) × Backed e (p .berths k)
-allowed-sound K p k Nothing s h = (omega (arith, bids-no-more (p .entry) k Nothing K refl, s .covered), tt)
-allowed-sound K p k (Bid c) s h =
-    let a = ok-cond (leb (2 * bids (with-entry (p .entry) k (Bid c)) K) (p .account)) (cond (ltb (p .berths k) 255) (Ok (Bid c)) (Err Full)) Uncovered (Bid c) h in
-    let b = ok-cond (ltb (p .berths k) 255) (Ok (Bid c)) Full (Bid c) (a .1) in
-    (leb-true (2 * bids (with-entry (p .entry) k (Bid c)) K) (p .account) (a .0), ltb-true (p .berths k) 255 (b .0))
-allowed-sound K p k (Ask c) s h =
-    let a = ok-cond (ltb 0 (p .berths k)) (Ok (Ask c)) Unbacked (Ask c) h in
-    (omega (arith, bids-no-more (p .entry) k (Ask c) K refl, s .covered), ltb-true 0 (p .berths k) (a .0))
+pub allowed-sound : (K : ℕ) (p : Position) (k : ℕ) (e : Entry) → k < K → Sound K p → allowed p k e ≡ Ok (committed-with p k e) → (2 * bids (with-entry (p .entry) k e) K ≤ p .account) × Backed e (p .berths k)
+allowed-sound K p k Nothing l s h = (omega (arith, committed-kept p k Nothing K l (s .kept), s .kept, s .covered), tt)
+allowed-sound K p k (Bid c) l s h =
+    let x = committed-with p k (Bid c) in
+    let a = ok-cond (leb x (p .account)) (cond (ltb (p .berths k) 255) (Ok x) (Err Full)) Uncovered x h in
+    let b = ok-cond (ltb (p .berths k) 255) (Ok x) Full x (a .1) in
+    (omega (arith, committed-kept p k (Bid c) K l (s .kept), leb-true x (p .account) (a .0)), ltb-true (p .berths k) 255 (b .0))
+allowed-sound K p k (Ask c) l s h =
+    let a = ok-cond (ltb 0 (p .berths k)) (Ok (committed-with p k (Ask c))) Unbacked (committed-with p k (Ask c)) h in
+    (omega (arith, committed-kept p k (Ask c) K l (s .kept), s .kept, s .covered), ltb-true 0 (p .berths k) (a .0))
 
 -- the position with such an entry is sound
-entry-sound : (K : ℕ) (p : Position) (k last : ℕ) (e : Entry) → Sound K p → allowed K p k e ≡ Ok e → Sound K (record { entry = with-entry (p .entry) k e; berths = p .berths; account = p .account; last = last })
-entry-sound K p k last e s h =
-    let a = allowed-sound K p k e s h in
+entry-sound : (K : ℕ) (p : Position) (k last : ℕ) (e : Entry) → k < K → Sound K p → allowed p k e ≡ Ok (committed-with p k e) → Sound K (record { entry = with-entry (p .entry) k e; berths = p .berths; account = p .account; last = last; committed = committed-with p k e })
+entry-sound K p k last e l s h =
+    let a = allowed-sound K p k e l s h in
     record {
+      kept = committed-kept p k e K l (s .kept);
       covered = a .0;
       backed =
-          λ j l.
-          ⊎-elim (λ q. subst (λ (x : Entry). Backed x (p .berths j)) (sym (with-entry-at (p .entry) k e j q)) (subst (λ (n : ℕ). Backed e (p .berths n)) (sym q) (a .1)))
-          (λ d. subst (λ (x : Entry). Backed x (p .berths j)) (sym (with-entry-off (p .entry) k e j d)) (s .backed j l))
+          λ j q.
+          ⊎-elim
+          (λ i. subst (λ (x : Entry). Backed x (p .berths j)) (sym (with-entry-at (p .entry) k e j i)) (subst (λ (n : ℕ). Backed e (p .berths n)) (sym i) (a .1)))
+          (λ d. subst (λ (x : Entry). Backed x (p .berths j)) (sym (with-entry-off (p .entry) k e j d)) (s .backed j q))
           (cases-eq j k);
     }
 
 pub order-sound : (K M : ℕ) (P : ℕ → Position) (m : Message) (o : Order) → Ordered K M P m o → Sound K (P (m .member)) → Sound K (moved (P (m .member)) (Ok o))
 order-sound K M P m o r s =
     subst (λ (q : Order). Sound K (moved (P (m .member)) (Ok q))) (sym (r .same))
-    (entry-sound K (P (m .member)) (m .kind) (m .number) (r .entry) s (r .allows))
+    (entry-sound K (P (m .member)) (m .kind) (m .number) (r .entry) (r .kind) s (r .allows))
 
 module _ (K M : ℕ) where
   -- one message leaves all positions sound

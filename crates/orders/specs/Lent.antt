@@ -1,5 +1,6 @@
 -- What is in lent memory. Entries stand kind by kind: member m's in kind k at k × M + m, of M members. Berths stand member
--- by member: those of kind k at m × K + k, of K kinds. A taken message sets one entry and one number, and nothing else.
+-- by member: those of kind k at m × K + k, of K kinds. A taken message sets one entry, one number and one sum of bids, and
+-- nothing else.
 use mathlib.Core.Bool.{Bool, _||_, cond}
 use mathlib.Core.List.{List}
 use mathlib.Core.Path.{_≡_}
@@ -26,24 +27,32 @@ use Rattle.orders.specs.Taking.{Position, and-then, ruling}
 pub record Held : Type 0 where
   pub entries : List ℕ
   pub numbers : List ℕ
+  pub committed : List ℕ
   pub accounts : List ℕ
   pub berths : List ℕ
 
 abbrev pub held : Books → Held
 held b =
-    record { entries = b .entries .now; numbers = b .numbers .now; accounts = b .accounts .now; berths = b .berths .now }
+    record {
+      entries = b .entries .now;
+      numbers = b .numbers .now;
+      committed = b .committed .now;
+      accounts = b .accounts .now;
+      berths = b .berths .now;
+    }
 
 -- the slices are those that were lent
 pub record SameLoans (b a : Books) : Type 0 where
   pub entries : name (a .entries) ≡ name (b .entries)
   pub numbers : name (a .numbers) ≡ name (b .numbers)
+  pub committed : name (a .committed) ≡ name (b .committed)
   pub accounts : name (a .accounts) ≡ name (b .accounts)
   pub berths : name (a .berths) ≡ name (b .berths)
 
--- the first part that is too short for K kinds and M members; the numbers of messages stand beside the entries
+-- the first part that is too short for K kinds and M members; what is kept of each member stands beside the entries
 abbrev pub lacking : ℕ → ℕ → Held → Option Part
 lacking K M h =
-    cond (ltb (length (h .entries)) (K * M) || ltb (length (h .numbers)) M) (Some Entries)
+    cond (ltb (length (h .entries)) (K * M) || (ltb (length (h .numbers)) M || ltb (length (h .committed)) M)) (Some Entries)
     (cond (ltb (length (h .accounts)) M) (Some Accounts)
     (cond (ltb (length (h .berths)) (K * M)) (Some Berths) None))
 
@@ -51,6 +60,7 @@ lacking K M h =
 pub record Fits (K M : ℕ) (h : Held) : Type 0 where
   pub entries : K * M ≤ length (h .entries)
   pub numbers : M ≤ length (h .numbers)
+  pub committed : M ≤ length (h .committed)
   pub accounts : M ≤ length (h .accounts)
   pub berths : K * M ≤ length (h .berths)
 
@@ -65,6 +75,7 @@ position K M h m =
       berths = λ k. getD (h .berths) (m * K + k) 0;
       account = getD (h .accounts) m 0;
       last = getD (h .numbers) m 0;
+      committed = getD (h .committed) m 0;
     }
 
 abbrev pub unless-short : {A : Type 0} → Option Part → Result A Refusal → Result A Refusal
@@ -84,12 +95,17 @@ abbrev pub numbers-after : List ℕ → Result Order Refusal → List ℕ
 numbers-after numbers (Ok o) = set numbers (o .member .0) (o .number)
 numbers-after numbers (Err e) = numbers
 
+abbrev pub committed-after : List ℕ → Result Order Refusal → List ℕ
+committed-after committed (Ok o) = set committed (o .member .0) (o .committed .0)
+committed-after committed (Err e) = committed
+
 -- what is in memory after a message
 abbrev pub held-after : ℕ → ℕ → Held → List ℕ → Held
 held-after K M h m =
     record {
       entries = entries-after M (h .entries) (judged K M h m);
       numbers = numbers-after (h .numbers) (judged K M h m);
+      committed = committed-after (h .committed) (judged K M h m);
       accounts = h .accounts;
       berths = h .berths;
     }

@@ -3,7 +3,7 @@
 use mathlib.Core.Path.{_≡_}
 use mathlib.Core.Bool.{Bool, true, _&&_, cond}
 use mathlib.Core.List.{List, [], _∷_}
-use Prim.Native.Nat.{ℕ, _*_, _≤_, _<_}
+use Prim.Native.Nat.{ℕ, zero, suc, _+_, _*_, _≤_, _<_}
 use lib.Dec.{eqb}
 use lib.ListN.{length}
 use Rattle.std.specs.declared.result.Result.{Result}
@@ -14,7 +14,8 @@ use Rattle.orders.specs.declared.message.Message.{Message}
 use Rattle.orders.specs.declared.money.Cents.{Cents}
 use Rattle.orders.specs.declared.order.Order.{Order}
 use Rattle.orders.specs.declared.refusal.Refusal.{Refusal}
-use Rattle.orders.specs.Taking.{Position, bids, with-entry}
+use Rattle.orders.specs.Entries.{bid-in}
+use Rattle.orders.specs.Taking.{Position}
 use Rattle.orders.specs.Lent.{Held, position}
 use Rattle.orders.specs.Words.{word2}
 
@@ -32,7 +33,16 @@ own-answers i [] as′ = []
 own-answers i (m ∷ ms) [] = []
 own-answers i (m ∷ ms) (a ∷ as′) = cond (is-of i m) (a ∷ own-answers i ms as′) (own-answers i ms as′)
 
--- what an order leaves of its member's position: its entry in its kind, and its number
+-- all that is bid in the first n kinds, in cents
+abbrev pub bids : (ℕ → Entry) → ℕ → ℕ
+bids f zero = 0
+bids f (suc n) = bids f n + bid-in (f n)
+
+-- entries by kind, with another in kind k
+abbrev pub with-entry : (ℕ → Entry) → ℕ → Entry → ℕ → Entry
+with-entry f k e j = cond (eqb j k) e (f j)
+
+-- what an order leaves of its member's position: its entry in its kind, its number, and what is bid with it
 abbrev pub moved : Position → Result Order Refusal → Position
 moved p (Ok o) =
     record {
@@ -40,6 +50,7 @@ moved p (Ok o) =
       berths = p .berths;
       account = p .account;
       last = o .number;
+      committed = o .committed .0;
     }
 moved p (Err e) = p
 
@@ -49,8 +60,9 @@ Backed Nothing berths = Unit {0}
 Backed (Bid c) berths = berths < 255
 Backed (Ask c) berths = 1 ≤ berths
 
--- all bids together are covered by the account, and each entry is backed
+-- what is kept as the sum of the bids is their sum; it is covered by the account; and each entry is backed
 pub record Sound (K : ℕ) (p : Position) : Type 0 where
+  pub kept : p .committed ≡ 2 * bids (p .entry) K
   pub covered : 2 * bids (p .entry) K ≤ p .account
   pub backed : (k : ℕ) → k < K → Backed (p .entry k) (p .berths k)
 

@@ -1,5 +1,5 @@
 -- An evening opens with 1 to 64 kinds, 1 to 2,000 members, accounts of at most 10^9 cents and a fund of at most 10^15 half
--- cents, in memory that is long enough for them. Then there is no entry, and no message has been taken.
+-- cents, in memory that is long enough for them. Then there is no entry, nothing is bid, and no message has been taken.
 use mathlib.Core.Bool.{Bool, _&&_, cond}
 use mathlib.Core.List.{List, [], _∷_, _++_}
 use Prim.Native.Nat.{ℕ, suc, _*_}

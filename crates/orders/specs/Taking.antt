@@ -1,7 +1,8 @@
 -- What becomes of a message. All that decides is the message and the position of its own member: the number of its last
--- taken message, its account, and for each kind its entry and its berths.
+-- taken message, its account, for each kind its entry and its berths, and what it bids in all kinds together, which is
+-- kept beside them, in half cents.
 use mathlib.Core.Bool.{Bool, cond}
-use Prim.Native.Nat.{ℕ, zero, suc, _+_, _*_}
+use Prim.Native.Nat.{ℕ, _+_, _-_, _*_}
 use lib.Dec.{ltb, leb, eqb}
 use Rattle.std.specs.declared.result.Result.{Result}
 use Rattle.std.specs.declared.result.Result.the-variants.{Ok, Err}
@@ -19,6 +20,7 @@ pub record Position : Type 0 where
   pub berths : ℕ → ℕ
   pub account : ℕ
   pub last : ℕ
+  pub committed : ℕ
 
 -- the entry that a sort and cents ask for
 abbrev pub asked : ℕ → ℕ → Result Entry Refusal
@@ -27,40 +29,41 @@ asked sort cents =
     (cond (eqb sort 1) (cond (in-range cents) (Ok (Bid (record { 0 = cents }))) (Err OutOfRange))
     (cond (eqb sort 2) (cond (in-range cents) (Ok (Ask (record { 0 = cents }))) (Err OutOfRange)) (Err NoSort)))
 
--- all that is bid in the first n kinds
-abbrev pub bids : (ℕ → Entry) → ℕ → ℕ
-bids f zero = 0
-bids f (suc n) = bids f n + bid-in (f n)
+-- what is bid in all kinds with an entry in kind k in place of the one there
+abbrev pub committed-with : Position → ℕ → Entry → ℕ
+committed-with p k e = (p .committed - 2 * bid-in (p .entry k)) + 2 * bid-in e
 
--- entries by kind, with another in kind k
-abbrev pub with-entry : (ℕ → Entry) → ℕ → Entry → ℕ → Entry
-with-entry f k e j = cond (eqb j k) e (f j)
-
--- whether the account and the berths of kind k allow an entry there, of K kinds
-abbrev pub allowed : ℕ → Position → ℕ → Entry → Result Entry Refusal
-allowed K p k Nothing = Ok Nothing
-allowed K p k (Bid c) =
-    cond (leb (2 * bids (with-entry (p .entry) k (Bid c)) K) (p .account))
-    (cond (ltb (p .berths k) 255) (Ok (Bid c)) (Err Full)) (Err Uncovered)
-allowed K p k (Ask c) = cond (ltb 0 (p .berths k)) (Ok (Ask c)) (Err Unbacked)
+-- the same, if the account and the berths of kind k allow the entry
+abbrev pub allowed : Position → ℕ → Entry → Result ℕ Refusal
+allowed p k Nothing = Ok (committed-with p k Nothing)
+allowed p k (Bid c) =
+    cond (leb (committed-with p k (Bid c)) (p .account))
+    (cond (ltb (p .berths k) 255) (Ok (committed-with p k (Bid c))) (Err Full)) (Err Uncovered)
+allowed p k (Ask c) = cond (ltb 0 (p .berths k)) (Ok (committed-with p k (Ask c))) (Err Unbacked)
 
 abbrev pub and-then : {A B : Type 0} → Result A Refusal → (A → Result B Refusal) → Result B Refusal
 and-then (Ok x) f = f x
 and-then (Err e) f = Err e
 
-abbrev pub order-of : Message → Entry → Order
-order-of m e =
-    record { member = record { 0 = m .member }; number = m .number; kind = record { 0 = m .kind }; entry = e }
+abbrev pub order-of : Message → Entry → ℕ → Order
+order-of m e committed =
+    record {
+      member = record { 0 = m .member };
+      number = m .number;
+      kind = record { 0 = m .kind };
+      entry = e;
+      committed = record { 0 = committed };
+    }
 
--- the order that a message for an existing kind is, or why it is not taken; of K kinds
-abbrev pub entering : ℕ → Position → Message → Result Order Refusal
-entering K p m =
-    and-then (asked (m .sort) (m .cents)) (λ e. and-then (allowed K p (m .kind) e) (λ a. Ok (order-of m a)))
+-- the order that a message for an existing kind is, or why it is not taken
+abbrev pub entering : Position → Message → Result Order Refusal
+entering p m =
+    and-then (asked (m .sort) (m .cents)) (λ e. and-then (allowed p (m .kind) e) (λ c. Ok (order-of m e c)))
 
--- the same for any message of the position's member
+-- the same for any message of the position's member, of K kinds
 abbrev pub ruling-at : ℕ → Position → Message → Result Order Refusal
 ruling-at K p m =
-    cond (ltb (p .last) (m .number)) (cond (ltb (m .kind) K) (entering K p m) (Err NoKind)) (Err OldNumber)
+    cond (ltb (p .last) (m .number)) (cond (ltb (m .kind) K) (entering p m) (Err NoKind)) (Err OldNumber)
 
 -- the same for any message, by the positions of M members
 abbrev pub ruling : ℕ → ℕ → (ℕ → Position) → Message → Result Order Refusal

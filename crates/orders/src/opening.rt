@@ -36,11 +36,14 @@ fn account_over(accounts: &[u64], members: u16) -> Option<u16>
     None
 }
 
-fn empty(cells: &mut [u32], count: usize)
+// Writes `value` into the first `count` cells.
+fn empty<T: Copy>(cells: &mut [T], count: usize, value: T)
     requires { ⌜ count ≤ length (now cells) ⌝ }
-    ensures { λ _. ⌜ now (cells .exit) ≡ replicate count 0 ++ drop count (now (cells .entry)) ⌝ }
+    ensures { λ _. ⌜ now (cells .exit) ≡ replicate count value ++ drop count (now (cells .entry)) ⌝ }
 {
-    cells[0..count].fill(0);
+    for i in 0..count {
+        cells[i] = value;
+    }
 }
 
 impl Open {
@@ -72,7 +75,7 @@ impl Open {
         }
     }
 
-    // Opens an evening: there is no entry, and no message has been taken. A refused opening changes nothing.
+    // Opens an evening: there is no entry, nothing is bid, and no message has been taken. A refused opening changes nothing.
     pub fn open(
         kinds: u8,
         members: u16,
@@ -83,6 +86,7 @@ impl Open {
         ensures refusal { λ r. ⌜ errPart r ≡ opening kinds members (fund .0) (held (now (books .entry))) ⌝ }
         ensures entries { λ r. ⌜ now (now (books .exit) .entries) ≡ emptied (errPart r) (kinds * members) (now (now (books .entry) .entries)) ⌝ }
         ensures numbers { λ r. ⌜ now (now (books .exit) .numbers) ≡ emptied (errPart r) members (now (now (books .entry) .numbers)) ⌝ }
+        ensures committed { λ r. ⌜ now (now (books .exit) .committed) ≡ emptied (errPart r) members (now (now (books .entry) .committed)) ⌝ }
         ensures accounts { λ _. ⌜ now (now (books .exit) .accounts) ≡ now (now (books .entry) .accounts) ⌝ }
         ensures berths { λ _. ⌜ now (now (books .exit) .berths) ≡ now (now (books .entry) .berths) ⌝ }
         ensures lent { λ _. ⌜ SameLoans (now (books .entry)) (now (books .exit)) ⌝ }
@@ -91,8 +95,9 @@ impl Open {
     {
         let open = Open::admit(kinds, members, fund, books)?;
         let count = usize::from(members);
-        empty(books.entries, usize::from(kinds) * count);
-        empty(books.numbers, count);
+        empty(books.entries, usize::from(kinds) * count, 0);
+        empty(books.numbers, count, 0);
+        empty(books.committed, count, 0);
         Ok(open)
     }
 }

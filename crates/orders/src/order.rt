@@ -1,5 +1,6 @@
 // A message that may be taken: its member and kind exist, and its entry is allowed.
 use crate::entry::Entry;
+use crate::money::HalfCents;
 
 // A member of the evening.
 #[derive(Clone, Copy)]
@@ -15,4 +16,6 @@ pub struct Order {
     pub number: u32,
     pub kind: Kind,
     pub entry: Entry,
+    // what the member bids with it in all kinds together
+    pub committed: HalfCents,
 }

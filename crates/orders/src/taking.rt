@@ -1,22 +1,23 @@
 // Taking a message: it is judged by what its own member has, and sets one entry and one number.
 ghost use mathlib.Core.Path.{_≡_};
 ghost use mathlib.Core.Bool.{cond};
-ghost use Prim.Native.Nat.{ℕ, _+_, _*_, _<_, _≤_};
+ghost use Prim.Native.Nat.{ℕ, _+_, _-_, _*_, _<_, _≤_};
 ghost use lib.Dec.{ltb};
 ghost use lib.ListN.{length, getD, set};
 ghost use Rattle.std.specs.declared.option.Option.the-variants.{Some, None};
-ghost use Rattle.orders.specs.Taking.{bids, with-entry, allowed, ruling};
+ghost use Rattle.orders.specs.Taking.{allowed, entering, ruling};
 ghost use Rattle.std.specs.Options.{valueOr};
 ghost use Rattle.std.specs.declared.result.Result.the-variants.{Ok, Err};
 ghost use Rattle.std.specs.Results.{isOk};
-ghost use Rattle.orders.specs.Entries.{encoded};
+ghost use Rattle.orders.specs.Entries.{encoded, bid-in};
 ghost use Rattle.orders.specs.Statements.{Taken-when-due};
-ghost use Rattle.orders.specs.Lent.{held, lacking, entry-at, position, Fits, judged, entries-after, numbers-after, answer, held-after, SameLoans};
+ghost use Rattle.orders.specs.Lent.{held, lacking, entry-at, position, Fits, judged, entries-after, numbers-after, committed-after, answer, held-after, SameLoans};
 use crate::books::Books;
 use crate::entry::Entry;
 use crate::evening::Closed;
 use crate::evening::Open;
 use crate::message::Message;
+use crate::money::HalfCents;
 use crate::order::Kind;
 use crate::order::Member;
 use crate::order::Order;
@@ -30,7 +31,10 @@ impl Open {
     {
         let members = usize::from(self.members);
         let slots = usize::from(self.kinds) * members;
-        if books.entries.len() < slots || books.numbers.len() < members {
+        if books.entries.len() < slots
+            || books.numbers.len() < members
+            || books.committed.len() < members
+        {
             return Some(Part::Entries);
         }
         if books.accounts.len() < members {
@@ -83,46 +87,68 @@ impl Open {
         usize::from(member.0) * usize::from(self.kinds) + usize::from(kind.0)
     }
 
-    // All that a member bids in the evening, with `new` in place of what it has in `kind`.
-    fn bids_with(&self, entries: &[u32], member: Member, kind: Kind, new: Entry) -> u64
-        requires { ⌜ now self .kinds * now self .members ≤ length (now entries) ⌝ ∗ ⌜ member .0 < now self .members ⌝ }
-        ensures bound { λ r. ⌜ r ≤ 64 * 4294967296 ⌝ }
-        ensures value { λ r. ⌜ r ≡ bids (with-entry (entry-at (now (self .entry) .members) (now (entries .entry)) (member .0)) (kind .0) new) (now (self .entry) .kinds) ⌝ }
+    // What a member bids in all kinds but one, in half cents.
+    fn committed_elsewhere(&self, books: &Books, member: Member, kind: Kind) -> u64
+        requires fits { ⌜ Fits (now self .kinds) (now self .members) (held (now books)) ⌝ }
+        requires member { ⌜ member .0 < now self .members ⌝ }
+        requires kind { ⌜ kind .0 < now self .kinds ⌝ }
+        ensures { λ r. ⌜ r ≡ getD (now (now (books .entry) .committed)) (member .0) 0 - 2 * bid-in (entry-at (now (self .entry) .members) (now (now (books .entry) .entries)) (member .0) (kind .0)) ⌝ }
     {
-        let mut sum = 0u64;
-        for k in 0..self.kinds {
-            let there = if k == kind.0 {
-                new
-            } else {
-                Entry::standing(entries[self.slot(Kind(k), member)])
-            };
-            sum += u64::from(there.bid());
-        }
-        sum
+        let there = Entry::standing(books.entries[self.slot(kind, member)]);
+        books
+            .committed[usize::from(member.0)]
+            .saturating_sub(2 * u64::from(there.bid()))
     }
 
-    // Whether the member's account and berths allow an entry in a kind.
+    // What a member bids in all kinds with an entry in a kind, if its account and its berths allow it.
     fn allows(
         &self,
         books: &Books,
         member: Member,
         kind: Kind,
         entry: Entry,
-    ) -> Result<Entry, Refusal>
+    ) -> Result<u64, Refusal>
         requires fits { ⌜ Fits (now self .kinds) (now self .members) (held (now books)) ⌝ }
         requires member { ⌜ member .0 < now self .members ⌝ }
         requires kind { ⌜ kind .0 < now self .kinds ⌝ }
-        ensures { λ r. ⌜ r ≡ allowed (now (self .entry) .kinds) (position (now (self .entry) .kinds) (now (self .entry) .members) (held (now (books .entry))) (member .0)) (kind .0) entry ⌝ }
+        ensures { λ r. ⌜ r ≡ allowed (position (now (self .entry) .kinds) (now (self .entry) .members) (held (now (books .entry))) (member .0)) (kind .0) entry ⌝ }
     {
+        let elsewhere = self.committed_elsewhere(books, member, kind);
         let berths = books.berths[self.berth(kind, member)];
+        let account = books.accounts[usize::from(member.0)];
+        let bid = 2 * u64::from(entry.bid());
         match entry {
-            Entry::Nothing => Ok(entry),
-            Entry::Bid(_)
-                if 2 * self.bids_with(books.entries, member, kind, entry)
-                    > books.accounts[usize::from(member.0)] => Err(Refusal::Uncovered),
+            Entry::Bid(_) if account < bid || account - bid < elsewhere => Err(Refusal::Uncovered),
             Entry::Bid(_) if berths == u8::MAX => Err(Refusal::Full),
+            Entry::Bid(_) => Ok(elsewhere + bid),
             Entry::Ask(_) if berths == 0 => Err(Refusal::Unbacked),
-            Entry::Bid(_) | Entry::Ask(_) => Ok(entry),
+            Entry::Ask(_) | Entry::Nothing => Ok(elsewhere),
+        }
+    }
+
+    // The order that a message of a member and for a kind is, or why it is not taken.
+    fn order(
+        &self,
+        books: &Books,
+        member: Member,
+        kind: Kind,
+        message: Message,
+    ) -> Result<Order, Refusal>
+        requires fits { ⌜ Fits (now self .kinds) (now self .members) (held (now books)) ⌝ }
+        requires member { ⌜ member .0 < now self .members ⌝ ∗ ⌜ member .0 ≡ message .member ⌝ }
+        requires kind { ⌜ kind .0 < now self .kinds ⌝ ∗ ⌜ kind .0 ≡ message .kind ⌝ }
+        ensures { λ r. ⌜ r ≡ entering (position (now (self .entry) .kinds) (now (self .entry) .members) (held (now (books .entry))) (member .0)) message ⌝ }
+    {
+        let entry = message.entry()?;
+        match self.allows(books, member, kind, entry) {
+            Ok(committed) => Ok(Order {
+                member,
+                number: message.number,
+                kind,
+                entry,
+                committed: HalfCents(committed),
+            }),
+            Err(refusal) => Err(refusal),
         }
     }
 
@@ -140,23 +166,17 @@ impl Open {
         let Some(kind) = self.kind(message.kind) else {
             return Err(Refusal::NoKind);
         };
-        let asked = message.entry()?;
-        let entry = self.allows(books, member, kind, asked)?;
-        Ok(Order {
-            member,
-            number: message.number,
-            kind,
-            entry,
-        })
+        self.order(books, member, kind, message)
     }
 
-    // Writes what an order leaves: its entry in its kind's row, and its number.
+    // Writes what an order leaves: its entry in its kind's row, its number, and what is bid with it.
     fn write(&self, books: &mut Books, order: Order)
         requires fits { ⌜ Fits (now self .kinds) (now self .members) (held (now books)) ⌝ }
         requires member { ⌜ order .member .0 < now self .members ⌝ }
         requires kind { ⌜ order .kind .0 < now self .kinds ⌝ }
         ensures entries { λ r. ⌜ now (now (books .exit) .entries) ≡ entries-after (now (self .entry) .members) (now (now (books .entry) .entries)) (Ok order) ⌝ }
         ensures numbers { λ r. ⌜ now (now (books .exit) .numbers) ≡ numbers-after (now (now (books .entry) .numbers)) (Ok order) ⌝ }
+        ensures committed { λ r. ⌜ now (now (books .exit) .committed) ≡ committed-after (now (now (books .entry) .committed)) (Ok order) ⌝ }
         ensures accounts { λ _. ⌜ now (now (books .exit) .accounts) ≡ now (now (books .entry) .accounts) ⌝ }
         ensures berths { λ _. ⌜ now (now (books .exit) .berths) ≡ now (now (books .entry) .berths) ⌝ }
         ensures lent { λ _. ⌜ SameLoans (now (books .entry)) (now (books .exit)) ⌝ }
@@ -164,7 +184,9 @@ impl Open {
         let first = self.row(order.kind);
         let end = first + usize::from(self.members);
         place(&mut books.entries[first..end], order.member, order.entry);
-        books.numbers[usize::from(order.member.0)] = order.number;
+        let member = usize::from(order.member.0);
+        books.numbers[member] = order.number;
+        books.committed[member] = order.committed.0;
     }
 
     // Judges a message, and enters it if it is an order.
@@ -172,6 +194,7 @@ impl Open {
         ensures order { λ r. ⌜ r ≡ judged (now (self .entry) .kinds) (now (self .entry) .members) (held (now (books .entry))) (now (message .entry)) ⌝ }
         ensures entries { λ r. ⌜ now (now (books .exit) .entries) ≡ entries-after (now (self .entry) .members) (now (now (books .entry) .entries)) r ⌝ }
         ensures numbers { λ r. ⌜ now (now (books .exit) .numbers) ≡ numbers-after (now (now (books .entry) .numbers)) r ⌝ }
+        ensures committed { λ r. ⌜ now (now (books .exit) .committed) ≡ committed-after (now (now (books .entry) .committed)) r ⌝ }
         ensures accounts { λ _. ⌜ now (now (books .exit) .accounts) ≡ now (now (books .entry) .accounts) ⌝ }
         ensures berths { λ _. ⌜ now (now (books .exit) .berths) ≡ now (now (books .entry) .berths) ⌝ }
         ensures lent { λ _. ⌜ SameLoans (now (books .entry)) (now (books .exit)) ⌝ }

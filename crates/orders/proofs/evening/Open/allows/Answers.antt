@@ -10,6 +10,3 @@ index-books-berth c =
           (omega arith) (omega arith),
       c .pre .fits .berths,
     )
-
-pub mul-bids-with : need.mul-bids-with
-mul-bids-with c = omega (arith, c .bids-with .ensures .bound)

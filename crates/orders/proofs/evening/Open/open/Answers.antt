@@ -19,11 +19,13 @@ returns c =
     let f : Fits K M before = opening-fits K M (c .args .fund .0) before refusal in
     let entries : c .empty .last .cells ≡ replicate (K * M) 0 ++ drop (K * M) (before .entries) = search needs in
     let numbers : c .empty-2 .last .cells ≡ replicate M 0 ++ drop M (before .numbers) = search needs in
+    let committed : c .empty-3 .last .cells ≡ replicate M 0 ++ drop M (before .committed) = search needs in
     record {
       opened = search needs;
       refusal = refusal;
       entries = entries;
       numbers = numbers;
+      committed = committed;
       accounts = search needs;
       berths = search needs;
       lent = search needs;
@@ -31,11 +33,18 @@ returns c =
           record {
             entries = omega (arith, ap length entries ∙ length-emptied (K * M) (before .entries) (f .entries), f .entries);
             numbers = omega (arith, ap length numbers ∙ length-emptied M (before .numbers) (f .numbers), f .numbers);
+            committed = omega (arith, ap length committed ∙ length-emptied M (before .committed) (f .committed), f .committed);
             accounts = f .accounts;
             berths = f .berths;
           };
       sound =
           opened-sound K M
-          (record { entries = c .empty .last .cells; numbers = c .empty-2 .last .cells; accounts = before .accounts; berths = before .berths })
-          (before .entries) entries;
+          (record {
+            entries = c .empty .last .cells;
+            numbers = c .empty-2 .last .cells;
+            committed = c .empty-3 .last .cells;
+            accounts = before .accounts;
+            berths = before .berths;
+          })
+          (before .entries) (before .committed) entries committed;
     }

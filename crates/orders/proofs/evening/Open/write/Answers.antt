@@ -36,8 +36,9 @@ returns c =
           (in-kind xs (c .args .order .kind .0) (c .args .self .now .kinds) (c .args .self .now .members) m a
           (c .from .result) (c .pre .member) (c .pre .kind) (c .pre .fits .entries) (c .row-first .ensures) (c .from .ensures))
           ∙ ap (λ i. set xs (i + m) v) (c .row-first .ensures);
-      numbers = ap (λ i. set (c .args .books .now .numbers .now) i (c .args .order .number)) (c .from-2 .ensures);
+      numbers = ap (λ i. set (c .args .books .now .numbers .now) i (c .args .order .number)) (c .from-member .ensures);
+      committed = ap (λ i. set (c .args .books .now .committed .now) i (c .args .order .committed .0)) (c .from-member .ensures);
       accounts = refl;
       berths = refl;
-      lent = record { entries = refl; numbers = refl; accounts = refl; berths = refl };
+      lent = record { entries = refl; numbers = refl; committed = refl; accounts = refl; berths = refl };
     }
