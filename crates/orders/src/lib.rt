@@ -1,5 +1,6 @@
 // Orders: what members hand in, when it is taken, and what it leaves.
 mod books;
+mod closed;
 mod entry;
 mod evening;
 mod input;

@@ -47,6 +47,32 @@ fn empty<T: Copy>(cells: &mut [T], count: usize, value: T)
 }
 
 impl Open {
+    // Opens an evening: there is no entry, nothing is bid, and no message has been taken. A refused opening changes nothing.
+    pub fn open(
+        kinds: u8,
+        members: u16,
+        fund: HalfCents,
+        books: &mut Books,
+    ) -> Result<Open, Refusal>
+        ensures opened { λ r. ⌜ made r (λ o. (o .kinds ≡ kinds) × (o .members ≡ members) × (o .fund ≡ fund)) ⌝ }
+        ensures refusal { λ r. ⌜ errPart r ≡ opening kinds members (fund .0) (held (now (books .entry))) ⌝ }
+        ensures entries { λ r. ⌜ now (now (books .exit) .entries) ≡ emptied (errPart r) (kinds * members) (now (now (books .entry) .entries)) ⌝ }
+        ensures numbers { λ r. ⌜ now (now (books .exit) .numbers) ≡ emptied (errPart r) members (now (now (books .entry) .numbers)) ⌝ }
+        ensures committed { λ r. ⌜ now (now (books .exit) .committed) ≡ emptied (errPart r) members (now (now (books .entry) .committed)) ⌝ }
+        ensures accounts { λ _. ⌜ now (now (books .exit) .accounts) ≡ now (now (books .entry) .accounts) ⌝ }
+        ensures berths { λ _. ⌜ now (now (books .exit) .berths) ≡ now (now (books .entry) .berths) ⌝ }
+        ensures lent { λ _. ⌜ SameLoans (now (books .entry)) (now (books .exit)) ⌝ }
+        ensures fits { λ r. ⌜ made r (λ _. Fits kinds members (held (now (books .exit)))) ⌝ }
+        ensures sound { λ r. ⌜ made r (λ _. All-sound kinds members (held (now (books .exit)))) ⌝ }
+    {
+        let open = Open::admit(kinds, members, fund, books)?;
+        let count = usize::from(members);
+        empty(books.entries, usize::from(kinds) * count, 0);
+        empty(books.numbers, count, 0);
+        empty(books.committed, count, 0);
+        Ok(open)
+    }
+
     // The evening that would open, or why it does not.
     fn admit(kinds: u8, members: u16, fund: HalfCents, books: &Books) -> Result<Open, Refusal>
         ensures opened { λ r. ⌜ made r (λ o. (o .kinds ≡ kinds) × (o .members ≡ members) × (o .fund ≡ fund)) ⌝ }
@@ -73,31 +99,5 @@ impl Open {
             Some(part) => Err(Refusal::Short(part)),
             None => Ok(open),
         }
-    }
-
-    // Opens an evening: there is no entry, nothing is bid, and no message has been taken. A refused opening changes nothing.
-    pub fn open(
-        kinds: u8,
-        members: u16,
-        fund: HalfCents,
-        books: &mut Books,
-    ) -> Result<Open, Refusal>
-        ensures opened { λ r. ⌜ made r (λ o. (o .kinds ≡ kinds) × (o .members ≡ members) × (o .fund ≡ fund)) ⌝ }
-        ensures refusal { λ r. ⌜ errPart r ≡ opening kinds members (fund .0) (held (now (books .entry))) ⌝ }
-        ensures entries { λ r. ⌜ now (now (books .exit) .entries) ≡ emptied (errPart r) (kinds * members) (now (now (books .entry) .entries)) ⌝ }
-        ensures numbers { λ r. ⌜ now (now (books .exit) .numbers) ≡ emptied (errPart r) members (now (now (books .entry) .numbers)) ⌝ }
-        ensures committed { λ r. ⌜ now (now (books .exit) .committed) ≡ emptied (errPart r) members (now (now (books .entry) .committed)) ⌝ }
-        ensures accounts { λ _. ⌜ now (now (books .exit) .accounts) ≡ now (now (books .entry) .accounts) ⌝ }
-        ensures berths { λ _. ⌜ now (now (books .exit) .berths) ≡ now (now (books .entry) .berths) ⌝ }
-        ensures lent { λ _. ⌜ SameLoans (now (books .entry)) (now (books .exit)) ⌝ }
-        ensures fits { λ r. ⌜ made r (λ _. Fits kinds members (held (now (books .exit)))) ⌝ }
-        ensures sound { λ r. ⌜ made r (λ _. All-sound kinds members (held (now (books .exit)))) ⌝ }
-    {
-        let open = Open::admit(kinds, members, fund, books)?;
-        let count = usize::from(members);
-        empty(books.entries, usize::from(kinds) * count, 0);
-        empty(books.numbers, count, 0);
-        empty(books.committed, count, 0);
-        Ok(open)
     }
 }

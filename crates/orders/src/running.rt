@@ -29,6 +29,17 @@ impl Open {
         ensures sound { λ _. ⌜ (All-sound (self .kinds) (self .members) (held (now (books .entry))) → All-sound (self .kinds) (self .members) (held (now (books .exit)))) ⌝ }
         ensures lent { λ _. ⌜ SameLoans (now (books .entry)) (now (books .exit)) ⌝ }
     {
+        self.hear_all(books, bytes, answers);
+        self
+    }
+
+    fn hear_all(&self, books: &mut Books, bytes: &[u8], answers: &mut [Result<(), Refusal>])
+        ensures after { λ _. ⌜ held (now (books .exit)) ≡ run (now (self .entry) .kinds) (now (self .entry) .members) (held (now (books .entry))) (messages (length (now (answers .entry))) (now (bytes .entry))) ⌝ }
+        ensures answers { λ _. ⌜ now (answers .exit) ≡ written-over (answers-to (now (self .entry) .kinds) (now (self .entry) .members) (held (now (books .entry))) (messages (length (now (answers .entry))) (now (bytes .entry)))) (now (answers .entry)) ⌝ }
+        ensures alone { λ _. ⌜ Alone (now (self .entry) .kinds) (now (self .entry) .members) (held (now (books .entry))) (held (now (books .exit))) (messages (length (now (answers .entry))) (now (bytes .entry))) (now (answers .exit)) ⌝ }
+        ensures sound { λ _. ⌜ (All-sound (now (self .entry) .kinds) (now (self .entry) .members) (held (now (books .entry))) → All-sound (now (self .entry) .kinds) (now (self .entry) .members) (held (now (books .exit)))) ⌝ }
+        ensures lent { λ _. ⌜ SameLoans (now (books .entry)) (now (books .exit)) ⌝ }
+    {
         let mut rest = bytes;
         for i in 0..answers.len() {
             if rest.is_empty() {
@@ -38,6 +49,5 @@ impl Open {
             answers[i] = self.hear(books, message);
             rest = after;
         }
-        self
     }
 }

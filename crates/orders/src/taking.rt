@@ -7,14 +7,13 @@ ghost use lib.ListN.{length, getD, set};
 ghost use Rattle.std.specs.declared.option.Option.the-variants.{Some, None};
 ghost use Rattle.orders.specs.Taking.{allowed, entering, ruling};
 ghost use Rattle.std.specs.Options.{valueOr};
-ghost use Rattle.std.specs.declared.result.Result.the-variants.{Ok, Err};
+ghost use Rattle.std.specs.declared.result.Result.the-variants.{Ok};
 ghost use Rattle.std.specs.Results.{isOk};
 ghost use Rattle.orders.specs.Entries.{encoded, bid-in};
 ghost use Rattle.orders.specs.Statements.{Taken-when-due};
 ghost use Rattle.orders.specs.Lent.{held, lacking, entry-at, position, Fits, judged, entries-after, numbers-after, committed-after, answer, held-after, SameLoans};
 use crate::books::Books;
 use crate::entry::Entry;
-use crate::evening::Closed;
 use crate::evening::Open;
 use crate::message::Message;
 use crate::money::HalfCents;
@@ -44,6 +43,31 @@ impl Open {
             return Some(Part::Berths);
         }
         None
+    }
+
+    // Takes a message or refuses it, and hands the evening on.
+    pub fn take(self, books: &mut Books, message: &[u8]) -> (Open, Result<(), Refusal>)
+        ensures open { λ r. ⌜ r .0 ≡ self ⌝ }
+        ensures answer { λ r. ⌜ r .1 ≡ answer (judged (self .kinds) (self .members) (held (now (books .entry))) (now (message .entry))) ⌝ }
+        ensures after { λ _. ⌜ held (now (books .exit)) ≡ held-after (self .kinds) (self .members) (held (now (books .entry))) (now (message .entry)) ⌝ }
+        ensures lent { λ _. ⌜ SameLoans (now (books .entry)) (now (books .exit)) ⌝ }
+        ensures due { λ r. ⌜ Taken-when-due (self .kinds) (self .members) (held (now (books .entry))) (now (message .entry)) (isOk (r .1)) ⌝ }
+    {
+        let answer = self.hear(books, message);
+        (self, answer)
+    }
+
+    // Takes a message or refuses it. What is refused changes nothing.
+    pub(crate) fn hear(&self, books: &mut Books, message: &[u8]) -> Result<(), Refusal>
+        ensures answer { λ r. ⌜ r ≡ answer (judged (now (self .entry) .kinds) (now (self .entry) .members) (held (now (books .entry))) (now (message .entry))) ⌝ }
+        ensures after { λ _. ⌜ held (now (books .exit)) ≡ held-after (now (self .entry) .kinds) (now (self .entry) .members) (held (now (books .entry))) (now (message .entry)) ⌝ }
+        ensures lent { λ _. ⌜ SameLoans (now (books .entry)) (now (books .exit)) ⌝ }
+        ensures due { λ r. ⌜ Taken-when-due (now (self .entry) .kinds) (now (self .entry) .members) (held (now (books .entry))) (now (message .entry)) (isOk r) ⌝ }
+    {
+        match self.enter(books, message) {
+            Ok(_) => Ok(()),
+            Err(refusal) => Err(refusal),
+        }
     }
 
     fn member(&self, number: u16) -> Option<Member>
@@ -206,41 +230,6 @@ impl Open {
         let order = self.judge(books, message)?;
         self.write(books, order);
         Ok(order)
-    }
-
-    // Takes a message or refuses it. What is refused changes nothing.
-    pub(crate) fn hear(&self, books: &mut Books, message: &[u8]) -> Result<(), Refusal>
-        ensures answer { λ r. ⌜ r ≡ answer (judged (now (self .entry) .kinds) (now (self .entry) .members) (held (now (books .entry))) (now (message .entry))) ⌝ }
-        ensures after { λ _. ⌜ held (now (books .exit)) ≡ held-after (now (self .entry) .kinds) (now (self .entry) .members) (held (now (books .entry))) (now (message .entry)) ⌝ }
-        ensures lent { λ _. ⌜ SameLoans (now (books .entry)) (now (books .exit)) ⌝ }
-    {
-        match self.enter(books, message) {
-            Ok(_) => Ok(()),
-            Err(refusal) => Err(refusal),
-        }
-    }
-
-    // Takes a message or refuses it, and hands the evening on.
-    pub fn take(self, books: &mut Books, message: &[u8]) -> (Open, Result<(), Refusal>)
-        ensures open { λ r. ⌜ r .0 ≡ self ⌝ }
-        ensures answer { λ r. ⌜ r .1 ≡ answer (judged (self .kinds) (self .members) (held (now (books .entry))) (now (message .entry))) ⌝ }
-        ensures after { λ _. ⌜ held (now (books .exit)) ≡ held-after (self .kinds) (self .members) (held (now (books .entry))) (now (message .entry)) ⌝ }
-        ensures lent { λ _. ⌜ SameLoans (now (books .entry)) (now (books .exit)) ⌝ }
-        ensures due { λ r. ⌜ Taken-when-due (self .kinds) (self .members) (held (now (books .entry))) (now (message .entry)) (isOk (r .1)) ⌝ }
-    {
-        let answer = self.hear(books, message);
-        (self, answer)
-    }
-}
-
-impl Closed {
-    // Refuses any message.
-    pub fn take(self, books: &mut Books, _message: &[u8]) -> (Closed, Result<(), Refusal>)
-        ensures closed { λ r. ⌜ r .0 ≡ self ⌝ }
-        ensures answer { λ r. ⌜ r .1 ≡ Err Refusal.Closed ⌝ }
-        ensures same { λ _. ⌜ now (books .exit) ≡ now (books .entry) ⌝ }
-    {
-        (self, Err(Refusal::Closed))
     }
 }
 

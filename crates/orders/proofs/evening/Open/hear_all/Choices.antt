@@ -1,6 +1,6 @@
 use Rattle.orders.specs.Lent.{held, SameLoans}
 use Rattle.orders.proofs.Runs.{Leads}
-use Rattle.orders.proofs.evening.Open.take_all.Given as given
+use Rattle.orders.proofs.evening.Open.hear_all.Given as given
 
 abbrev pub Inv-loop-i : given.InvT-loop-i
 Inv-loop-i l =
