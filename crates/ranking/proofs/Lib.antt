@@ -1,0 +1,5 @@
+pub mod Reps
+pub mod Lifts
+pub mod InOrder
+pub mod Weights
+pub mod Walks
