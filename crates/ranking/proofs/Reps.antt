@@ -181,3 +181,7 @@ in-rep ns i (node l m r) k h p =
         | inr b ↦ let e : k ≡ m = here-eq k m (omega arith) in (omega (arith, e, h .1), omega (arith, e, h .2))
       ]
     ]
+
+pub small-rep : (ns : List Node) (i : ℕ) (t : Tree) → Rep ns i t → i < 65536
+small-rep ns i leaf h = omega arith
+small-rep ns i (node l m r) h = omega (arith, h .0, h .2)

@@ -2,8 +2,10 @@
 -- their lists and their balance are proved. A tree is balanced if nowhere the one child weighs more than three times
 -- the other; its weight is one more than its size.
 use mathlib.Core.Bool.{Bool, true, false, cond}
-use Prim.Native.Nat.{ℕ, _+_, _*_, _≤_}
+use Prim.Native.Nat.{ℕ, _+_, _-_, _*_, _≤_}
 use lib.Dec.{ltb, eqb}
+use Rattle.std.specs.declared.option.Option.{Option}
+use Rattle.std.specs.declared.option.Option.the-variants.{Some, None}
 use Rattle.ranking.specs.declared.node.Node.{Node}
 use Rattle.ranking.specs.declared.node.Hand.{Hand}
 use Rattle.ranking.specs.declared.node.Hand.the-variants.{Left, Right}
@@ -107,3 +109,14 @@ unfoldable pub shrunk : (ℕ → Bool) → ℕ → Tree → Tree
 shrunk p m leaf = leaf
 shrunk p m (node l x r) =
     cond (eqb m x) (glued l r) (cond (p x) (balanced Right (shrunk p m l) x r) (balanced Left (shrunk p m r) x l))
+
+-- how many members are passed on the way to the first of which the test is not true
+unfoldable pub passed : (ℕ → Bool) → Tree → ℕ
+passed p leaf = 0
+passed p (node l x r) = cond (p x) (size l + 1 + passed p r) (passed p l)
+
+-- the member at a place
+unfoldable pub picked : ℕ → Tree → Option ℕ
+picked k leaf = None
+picked k (node l x r) =
+    cond (ltb k (size l)) (picked k l) (cond (eqb k (size l)) (Some x) (picked (k - (size l + 1)) r))

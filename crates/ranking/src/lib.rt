@@ -1,9 +1,13 @@
 // Ranking: the members of a side of a kind in the order of their ranks.
+mod book;
+mod booking;
+mod lookup;
 mod node;
 mod ranked;
+mod roots;
 mod tree;
 mod walk;
 
-pub use node::Node;
+pub use book::Book;
 pub use ranked::Ranked;
 pub use ranked::Side;

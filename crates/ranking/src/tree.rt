@@ -10,7 +10,7 @@ use crate::node::NONE;
 use crate::node::Node;
 
 // How many members are in a tree.
-fn size_of(nodes: &[Node], root: u16) -> u16
+pub fn size_of(nodes: &[Node], root: u16) -> u16
     requires { ⌜ Slot (now nodes) root ⌝ }
     ensures { λ r. ⌜ r ≡ size-at (now (nodes .entry)) root ⌝ }
 {
