@@ -163,7 +163,7 @@ less-le m (x ∷ xs) =
     cond-both (not (eqb (x .member) m)) (x ∷ less m xs) (less m xs) (λ zs. length zs ≤ suc (length xs))
     (λ e. omega arith) (λ e. omega arith)
 
-ltb-suc : (a b : ℕ) → ltb a b ≡ ltb (suc a) (suc b)
+pub ltb-suc : (a b : ℕ) → ltb a b ≡ ltb (suc a) (suc b)
 ltb-suc a b =
     elim (cases-lt a b) [
       | inl p ↦ lt-ltb a b p ∙ sym (lt-ltb (suc a) (suc b) (omega arith))

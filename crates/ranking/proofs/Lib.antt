@@ -11,3 +11,4 @@ pub mod Depths
 pub mod Sounds
 pub mod Changes
 pub mod Bookings
+pub mod AllKinds

@@ -8,3 +8,4 @@ pub mod Sound
 pub mod Depth
 pub mod Lists
 pub mod Books
+pub mod Indexes

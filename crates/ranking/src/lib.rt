@@ -1,6 +1,7 @@
 // Ranking: the members of a side of a kind in the order of their ranks.
 mod book;
 mod booking;
+mod index;
 mod lookup;
 mod node;
 mod ranked;
@@ -9,5 +10,6 @@ mod tree;
 mod walk;
 
 pub use book::Book;
+pub use index::Index;
 pub use ranked::Ranked;
 pub use ranked::Side;
