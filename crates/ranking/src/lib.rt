@@ -9,7 +9,6 @@ mod roots;
 mod tree;
 mod walk;
 
-pub use book::Book;
 pub use index::Index;
 pub use ranked::Ranked;
 pub use ranked::Side;
