@@ -102,7 +102,7 @@ pub record Ordered (K M : ℕ) (P : ℕ → Position) (m : Message) (o : Order) 
   pub entry : Entry
   pub asks : asked (m .sort) (m .cents) ≡ Ok entry
   pub allows : allowed (P (m .member)) (m .kind) entry ≡ Ok (committed-with (P (m .member)) (m .kind) entry)
-  pub same : o ≡ order-of m entry (committed-with (P (m .member)) (m .kind) entry)
+  pub same : o ≡ order-of (P (m .member)) m entry (committed-with (P (m .member)) (m .kind) entry)
 
 pub ordered : (K M : ℕ) (P : ℕ → Position) (m : Message) (o : Order) → ruling K M P m ≡ Ok o → Ordered K M P m o
 ordered K M P m o h =
@@ -110,8 +110,8 @@ ordered K M P m o h =
     let a = ok-cond (ltb (m .member) M) (ruling-at K p m) NoMember o h in
     let b = ok-cond (ltb (p .last) (m .number)) (cond (ltb (m .kind) K) (entering p m) (Err NoKind)) OldNumber o (a .1) in
     let d = ok-cond (ltb (m .kind) K) (entering p m) NoKind o (b .1) in
-    let e = ok-and-then (asked (m .sort) (m .cents)) (λ e. and-then (allowed p (m .kind) e) (λ c. Ok (order-of m e c))) o (d .1) in
-    let g = ok-and-then (allowed p (m .kind) (e .0)) (λ c. Ok (order-of m (e .0) c)) o (e .2) in
+    let e = ok-and-then (asked (m .sort) (m .cents)) (λ e. and-then (allowed p (m .kind) e) (λ c. Ok (order-of p m e c))) o (d .1) in
+    let g = ok-and-then (allowed p (m .kind) (e .0)) (λ c. Ok (order-of p m (e .0) c)) o (e .2) in
     let is : g .0 ≡ committed-with p (m .kind) (e .0) = allowed-sum p (m .kind) (e .0) (g .0) (g .1) in
     let last = g .2 in
     record {

@@ -45,20 +45,21 @@ abbrev pub and-then : {A B : Type 0} → Result A Refusal → (A → Result B Re
 and-then (Ok x) f = f x
 and-then (Err e) f = Err e
 
-abbrev pub order-of : Message → Entry → ℕ → Order
-order-of m e committed =
+abbrev pub order-of : Position → Message → Entry → ℕ → Order
+order-of p m e committed =
     record {
       member = record { 0 = m .member };
       number = m .number;
       kind = record { 0 = m .kind };
       entry = e;
+      replaced = p .entry (m .kind);
       committed = record { 0 = committed };
     }
 
 -- the order that a message for an existing kind is, or why it is not taken
 abbrev pub entering : Position → Message → Result Order Refusal
 entering p m =
-    and-then (asked (m .sort) (m .cents)) (λ e. and-then (allowed p (m .kind) e) (λ c. Ok (order-of m e c)))
+    and-then (asked (m .sort) (m .cents)) (λ e. and-then (allowed p (m .kind) e) (λ c. Ok (order-of p m e c)))
 
 -- the same for any message of the position's member, of K kinds
 abbrev pub ruling-at : ℕ → Position → Message → Result Order Refusal

@@ -73,6 +73,16 @@ impl Open {
         Ok(open)
     }
 
+    // Why an evening would not open.
+    pub fn refusal(kinds: u8, members: u16, fund: HalfCents, books: &Books) -> Option<Refusal>
+        ensures { λ r. ⌜ r ≡ opening kinds members (fund .0) (held (now (books .entry))) ⌝ }
+    {
+        match Open::admit(kinds, members, fund, books) {
+            Ok(_) => None,
+            Err(refusal) => Some(refusal),
+        }
+    }
+
     // The evening that would open, or why it does not.
     fn admit(kinds: u8, members: u16, fund: HalfCents, books: &Books) -> Result<Open, Refusal>
         ensures opened { λ r. ⌜ made r (λ o. (o .kinds ≡ kinds) × (o .members ≡ members) × (o .fund ≡ fund)) ⌝ }

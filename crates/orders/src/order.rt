@@ -16,6 +16,8 @@ pub struct Order {
     pub number: u32,
     pub kind: Kind,
     pub entry: Entry,
+    // what the member had in the kind
+    pub replaced: Entry,
     // what the member bids with it in all kinds together
     pub committed: HalfCents,
 }

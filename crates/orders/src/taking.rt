@@ -111,35 +111,37 @@ impl Open {
         usize::from(member.0) * usize::from(self.kinds) + usize::from(kind.0)
     }
 
-    // What a member bids in all kinds but one, in half cents.
-    fn committed_elsewhere(&self, books: &Books, member: Member, kind: Kind) -> u64
+    // What a member has in a kind.
+    fn standing(&self, books: &Books, member: Member, kind: Kind) -> Entry
         requires fits { ⌜ Fits (now self .kinds) (now self .members) (held (now books)) ⌝ }
         requires member { ⌜ member .0 < now self .members ⌝ }
         requires kind { ⌜ kind .0 < now self .kinds ⌝ }
-        ensures { λ r. ⌜ r ≡ getD (now (now (books .entry) .committed)) (member .0) 0 - 2 * bid-in (entry-at (now (self .entry) .members) (now (now (books .entry) .entries)) (member .0) (kind .0)) ⌝ }
+        ensures { λ r. ⌜ r ≡ entry-at (now (self .entry) .members) (now (now (books .entry) .entries)) (member .0) (kind .0) ⌝ }
     {
-        let there = Entry::standing(books.entries[self.slot(kind, member)]);
-        books
-            .committed[usize::from(member.0)]
-            .saturating_sub(2 * u64::from(there.bid()))
+        Entry::standing(books.entries[self.slot(kind, member)])
     }
 
-    // What a member bids in all kinds with an entry in a kind, if its account and its berths allow it.
+    // What a member bids in all kinds with an entry in place of another, if its account and its berths allow it.
     fn allows(
         &self,
         books: &Books,
         member: Member,
         kind: Kind,
+        replaced: Entry,
         entry: Entry,
     ) -> Result<u64, Refusal>
         requires fits { ⌜ Fits (now self .kinds) (now self .members) (held (now books)) ⌝ }
         requires member { ⌜ member .0 < now self .members ⌝ }
         requires kind { ⌜ kind .0 < now self .kinds ⌝ }
+        requires replaced { ⌜ replaced ≡ entry-at (now self .members) (now (now books .entries)) (member .0) (kind .0) ⌝ }
         ensures { λ r. ⌜ r ≡ allowed (position (now (self .entry) .kinds) (now (self .entry) .members) (held (now (books .entry))) (member .0)) (kind .0) entry ⌝ }
     {
-        let elsewhere = self.committed_elsewhere(books, member, kind);
+        let at = usize::from(member.0);
+        let elsewhere = books
+            .committed[at]
+            .saturating_sub(2 * u64::from(replaced.bid()));
         let berths = books.berths[self.berth(kind, member)];
-        let account = books.accounts[usize::from(member.0)];
+        let account = books.accounts[at];
         let bid = 2 * u64::from(entry.bid());
         match entry {
             Entry::Bid(_) if account < bid || account - bid < elsewhere => Err(Refusal::Uncovered),
@@ -164,12 +166,14 @@ impl Open {
         ensures { λ r. ⌜ r ≡ entering (position (now (self .entry) .kinds) (now (self .entry) .members) (held (now (books .entry))) (member .0)) message ⌝ }
     {
         let entry = message.entry()?;
-        match self.allows(books, member, kind, entry) {
+        let replaced = self.standing(books, member, kind);
+        match self.allows(books, member, kind, replaced, entry) {
             Ok(committed) => Ok(Order {
                 member,
                 number: message.number,
                 kind,
                 entry,
+                replaced,
                 committed: HalfCents(committed),
             }),
             Err(refusal) => Err(refusal),
@@ -213,8 +217,8 @@ impl Open {
         books.committed[member] = order.committed.0;
     }
 
-    // Judges a message, and enters it if it is an order.
-    fn enter(&self, books: &mut Books, message: &[u8]) -> Result<Order, Refusal>
+    // Takes a message or refuses it, and answers with the order that it is. What is refused changes nothing.
+    pub fn enter(&self, books: &mut Books, message: &[u8]) -> Result<Order, Refusal>
         ensures order { λ r. ⌜ r ≡ judged (now (self .entry) .kinds) (now (self .entry) .members) (held (now (books .entry))) (now (message .entry)) ⌝ }
         ensures entries { λ r. ⌜ now (now (books .exit) .entries) ≡ entries-after (now (self .entry) .members) (now (now (books .entry) .entries)) r ⌝ }
         ensures numbers { λ r. ⌜ now (now (books .exit) .numbers) ≡ numbers-after (now (now (books .entry) .numbers)) r ⌝ }

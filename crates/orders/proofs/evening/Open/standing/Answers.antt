@@ -1,6 +1,6 @@
 use native.Mathlib.Omega.{arith}
 use Rattle.std.proofs.shelf.Bits.{mul-add-lt}
-use Rattle.orders.proofs.evening.Open.committed_elsewhere.Needs as need
+use Rattle.orders.proofs.evening.Open.standing.Needs as need
 
 pub index-books-slot : need.index-books-slot
 index-books-slot c =
