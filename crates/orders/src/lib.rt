@@ -9,7 +9,6 @@ mod money;
 mod opening;
 mod order;
 mod refusal;
-mod running;
 mod taking;
 
 pub use books::Books;

@@ -1,0 +1,7 @@
+// The ledger: an evening with the index of its entries, kept while messages come.
+mod indexing;
+mod running;
+mod session;
+mod taking;
+
+pub use session::Session;
