@@ -1,2 +1,4 @@
+pub mod Empty
+pub mod Filled
 pub mod Kept
 pub mod Relisting

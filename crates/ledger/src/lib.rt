@@ -1,5 +1,7 @@
 // The ledger: an evening with the index of its entries, kept while messages come.
 mod indexing;
+mod opening;
+mod ranks;
 mod running;
 mod session;
 mod taking;

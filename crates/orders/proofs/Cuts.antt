@@ -8,8 +8,8 @@ use lib.ListN.{length, take, drop}
 use Rattle.std.proofs.shelf.Lists.{take-all, drop-all}
 use Rattle.std.proofs.shelf.Tests.{cases-lt}
 
-pub take-min : (xs : List ℕ) (n s : ℕ) → s ≡ min (length xs) n → (take s xs ≡ take n xs) × (drop s xs ≡ drop n xs)
-take-min xs n s e = ⊎-elim short long (cases-lt (length xs) n)
+pub take-min : {X : Type 0} (xs : List X) (n s : ℕ) → s ≡ min (length xs) n → (take s xs ≡ take n xs) × (drop s xs ≡ drop n xs)
+take-min {X} xs n s e = ⊎-elim short long (cases-lt (length xs) n)
   where
     short : length xs < n → (take s xs ≡ take n xs) × (drop s xs ≡ drop n xs)
     short h = (
