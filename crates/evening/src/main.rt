@@ -1,20 +1,16 @@
 // Holds an evening: reads it from standard input, takes its messages, closes it, and prints the result.
 mod memory;
 mod report;
-mod slow;
 
-use clearing::clear;
-use clearing::count_pairs;
+use ledger::Session;
 use memory::Memory;
 use orders::Books;
 use orders::Input;
-use orders::Open;
 use orders::Refusal;
+use ranking::Ranked;
 use ranking::Side;
 use report::Report;
-use slow::ranked;
 use std::alloc::AllocError;
-use std::alloc::Global;
 use std::env;
 use std::error::AnyError;
 use std::io;
@@ -75,26 +71,44 @@ fn hold(rt: &LibcRuntime) -> Result<(), Fault> {
         accounts: memory.accounts.as_mut_slice(),
         berths: memory.berths.as_mut_slice(),
     };
-    let open = Open::open(input.kinds, input.members, input.fund, &mut books)?;
-    let open = open.take_all(&mut books, input.messages, memory.answers.as_mut_slice());
+    let session = Session::open(heap, input.kinds, input.members, input.fund, &mut books)?;
+    let session = session.take_all(&mut books, input.messages, memory.answers.as_mut_slice());
     let mut report = Report::new(rt);
     report.answers(memory.answers.as_slice())?;
-    close(heap, &open, memory.entries.as_slice(), &mut report)
+    close(
+        &session,
+        memory.buyers.as_mut_slice(),
+        memory.sellers.as_mut_slice(),
+        &mut report,
+    )?;
+    Ok(())
 }
 
-// Closes kind by kind, and reports each.
-fn close(heap: Global, open: &Open, entries: &[u32], report: &mut Report) -> Result<(), Fault> {
-    let mut fund = open.fund.0;
-    for (kind, row) in entries.chunks(usize::from(open.members)).enumerate() {
-        let buyers = ranked(heap, Side::Buyers, row)?;
-        let sellers = ranked(heap, Side::Sellers, row)?;
-        let pairs = count_pairs(buyers.as_slice(), sellers.as_slice());
-        let outcome = clear(buyers.as_slice(), sellers.as_slice());
-        let takings = report.kind(kind, pairs, outcome, buyers.as_slice(), sellers.as_slice())?;
-        fund = fund.saturating_add(takings);
+// Goes kind by kind, and reports each.
+fn close(
+    session: &Session,
+    buyers: &mut [Ranked],
+    sellers: &mut [Ranked],
+    report: &mut Report,
+) -> io::Result<()> {
+    let mut fund = session.open.fund.0;
+    for kind in 0..session.open.kinds {
+        fund = fund.saturating_add(close_kind(session, kind, buyers, sellers, report)?);
     }
-    report.fund(fund)?;
-    Ok(())
+    report.fund(fund)
+}
+
+// Ranks a kind and reports it. Answers what the fund gets.
+fn close_kind(
+    session: &Session,
+    kind: u8,
+    buyers: &mut [Ranked],
+    sellers: &mut [Ranked],
+    report: &mut Report,
+) -> io::Result<u64> {
+    let buying = session.ranks(kind, Side::Buyers, buyers);
+    let selling = session.ranks(kind, Side::Sellers, sellers);
+    report.kind(kind, &buyers[0..buying], &sellers[0..selling])
 }
 
 fn main(rt: LibcRuntime) -> Result<(), AnyError> {

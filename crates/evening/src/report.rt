@@ -1,5 +1,6 @@
 // What an evening prints.
-use clearing::Outcome;
+use clearing::clear;
+use clearing::count_pairs;
 use orders::HalfCents;
 use orders::Refusal;
 use ranking::Ranked;
@@ -36,14 +37,9 @@ impl Report {
     }
 
     // A kind's line, then its buyers who trade in the order of ranks, then its sellers. Answers what the fund gets.
-    pub fn kind(
-        &mut self,
-        kind: usize,
-        pairs: usize,
-        outcome: Outcome,
-        buyers: &[Ranked],
-        sellers: &[Ranked],
-    ) -> io::Result<u64> {
+    pub fn kind(&mut self, kind: u8, buyers: &[Ranked], sellers: &[Ranked]) -> io::Result<u64> {
+        let pairs = count_pairs(buyers, sellers);
+        let outcome = clear(buyers, sellers);
         let trades = outcome.trades();
         let HalfCents(pay) = outcome.buyers_price();
         let HalfCents(get) = outcome.sellers_price();

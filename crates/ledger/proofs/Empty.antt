@@ -28,11 +28,11 @@ row-none : (K M k : ℕ) (ys : List ℕ) → 1 ≤ M → k < K → kind-row M (r
 row-none K M k ys one l =
     let w : k * M + M ≤ K * M = row-within k K M (K * M) one l (omega arith) in
     ap row-of
-      ( ap (take M)
-        ( drop-append-le (k * M) (replicate (K * M) 0) ys (simp length-replicate (omega arith))
-          ∙ ap (λ (xs : List ℕ). xs ++ ys) (drop-replicate (k * M) (K * M) 0) )
-        ∙ take-append-le M (replicate (K * M - k * M) 0) ys (simp length-replicate (omega arith))
-        ∙ take-replicate M (K * M - k * M) 0 (omega arith) )
+    (ap (take M)
+    (drop-append-le (k * M) (replicate (K * M) 0) ys (simp length-replicate (omega arith))
+    ∙ ap (λ (xs : List ℕ). xs ++ ys) (drop-replicate (k * M) (K * M) 0))
+    ∙ take-append-le M (replicate (K * M - k * M) 0) ys (simp length-replicate (omega arith))
+    ∙ take-replicate M (K * M - k * M) 0 (omega arith))
 
 pub indexed-empty : (K M : ℕ) (codes ys : List ℕ) (ix : Index) → 1 ≤ M → codes ≡ replicate (K * M) 0 ++ ys → ((k : ℕ) → kind-members k ix ≡ cond (ltb k K) M 0) → ((k : ℕ) (s : Side) → kind-list k s ix ≡ []) → Indexed K M codes ix
 unfolding ranked

@@ -47,8 +47,8 @@ module _ (M k m : ℕ) (codes : List ℕ) (h : m < M) (w : k * M + M ≤ length 
   pub row-set : (v : ℕ) → kind-row M (set codes (k * M + m) v) k ≡ set (kind-row M codes k) m (entry-of v)
   row-set v =
       ap row-of
-        ( ap (take M) (drop-set-add (k * M) codes m v)
-          ∙ take-set-in (drop (k * M) codes) M m v h (simp length-drop (omega arith)) )
+      (ap (take M) (drop-set-add (k * M) codes m v)
+      ∙ take-set-in (drop (k * M) codes) M m v h (simp length-drop (omega arith)))
       ∙ map-set entry-of (take M (drop (k * M) codes)) m v
 
   -- and any other
@@ -57,6 +57,7 @@ module _ (M k m : ℕ) (codes : List ℕ) (h : m < M) (w : k * M + M ≤ length 
     where
       above : k < j → take M (drop (j * M) (set codes (k * M + m) v)) ≡ take M (drop (j * M) codes)
       above l = ap (take M) (drop-set-lt (j * M) codes (k * M + m) v (omega (arith, mul-add-lt k M m j l h)))
+
       below : j ≤ k → take M (drop (j * M) (set codes (k * M + m) v)) ≡ take M (drop (j * M) codes)
       below l =
           let p : j * M + M ≤ k * M = row-within j k M (k * M) (omega arith) (omega arith) (omega arith) in
@@ -68,8 +69,8 @@ module _ (M k m : ℕ) (codes : List ℕ) (h : m < M) (w : k * M + M ≤ length 
 -- what replacing an entry in an index promises
 pub record Replaces (o : Order) (ix ix′ : Index) : Type 0 where
   pub row :
-    (row : List Entry) → o .member .0 < length row → getD row (o .member .0) Nothing ≡ o .replaced → Lists row (o .kind .0) ix
-    → Lists (set row (o .member .0) (o .entry)) (o .kind .0) ix′
+      (row : List Entry) → o .member .0 < length row → getD row (o .member .0) Nothing ≡ o .replaced → Lists row (o .kind .0) ix
+      → Lists (set row (o .member .0) (o .entry)) (o .kind .0) ix′
   pub rest : (k : ℕ) (s : Side) → (k ≡ o .kind .0 → ⊥) → kind-list k s ix′ ≡ kind-list k s ix
   pub size : (k : ℕ) → kind-members k ix′ ≡ kind-members k ix
 
@@ -83,32 +84,40 @@ module _ (K M : ℕ) (h : Held) (ix ix′ : Index) (was : Indexed K M (h .entrie
     where
       i : ℕ
       i = o .member .0
+
       k : ℕ
       k = o .kind .0
+
       code : ℕ
       code = valueOr (encoded (o .entry)) 0
+
       within : k * M + M ≤ length (h .entries)
       within = row-within k K M (length (h .entries)) (omega (arith, inside)) exists long
+
       Goal : Type 0
       Goal = Lists (kind-row M (set (h .entries) (k * M + i) code) j) j ix′
+
       row : List Entry
       row = kind-row M (h .entries) k
+
       written : Lists (set row i (o .entry)) k ix′
       written =
           r .row row (omega (arith, inside, length-row M k i (h .entries) inside within))
-            (getD-row M k i (h .entries) inside within ∙ sym had) (was k exists)
+          (getD-row M k i (h .entries) inside within ∙ sym had) (was k exists)
+
       this : j ≡ k → Goal
       this q =
           subst (λ (n : ℕ). Lists (kind-row M (set (h .entries) (k * M + i) code) n) n ix′) (sym q)
-            (subst (λ (x : List Entry). Lists x k ix′)
-              (ap (set row i) (sym read) ∙ sym (row-set M k i (h .entries) inside within code)) written)
+          (subst (λ (x : List Entry). Lists x k ix′)
+          (ap (set row i) (sym read) ∙ sym (row-set M k i (h .entries) inside within code)) written)
+
       other : (j ≡ k → ⊥) → Goal
       other d =
           subst (λ (x : List Entry). Lists x j ix′) (sym (row-other M k i (h .entries) inside within j code d))
-            (record {
-              sides = λ s. r .rest j s d ∙ was j l .sides s;
-              members = r .size j ∙ was j l .members;
-            })
+          (record {
+            sides = λ s. r .rest j s d ∙ was j l .sides s;
+            members = r .size j ∙ was j l .members;
+          })
 
   pub indexed-after : (m : List ℕ) (o : Order) → judged K M h m ≡ Ok o → After o
   indexed-after m o j =
@@ -116,6 +125,6 @@ module _ (K M : ℕ) (h : Held) (ix ix′ : Index) (was : Indexed K M (h .entrie
       let p = position K M h (fields m .member) in
       let e = b .rule .entry in
       subst After (sym (b .rule .same))
-        (order-after (order-of p (fields m) e (committed-with p (fields m .kind) e)) (b .rule .member) (b .rule .kind)
-          (b .fits .entries) refl
-          (coded (fields m .sort) (fields m .cents) e (asks-for (fields m .sort) (fields m .cents) e (b .rule .asks))))
+      (order-after (order-of p (fields m) e (committed-with p (fields m .kind) e)) (b .rule .member) (b .rule .kind)
+      (b .fits .entries) refl
+      (coded (fields m .sort) (fields m .cents) e (asks-for (fields m .sort) (fields m .cents) e (b .rule .asks))))

@@ -68,13 +68,15 @@ some-same x y h = cc
 on-its-side : (e : Entry) (s : Side) (c : Cents) → Some (s, c) ≡ side-of e → (on-side s e ≡ Some c) × (on-side (opposite s) e ≡ None)
 on-its-side Nothing s c h = let z : _≡_ {A = ℕ} 0 1 = cc in absurd (omega arith)
 on-its-side (Bid d) s c h =
-    let p = some-same (s, c) (Buyers, d) h in
-    ( ap (λ (q : Side × Cents). on-side (q .0) (Bid d)) p ∙ ap (λ (q : Side × Cents). Some (q .1)) (sym p)
-    , ap (λ (q : Side × Cents). on-side (opposite (q .0)) (Bid d)) p )
+    let p = some-same (s, c) (Buyers, d) h in (
+      ap (λ (q : Side × Cents). on-side (q .0) (Bid d)) p ∙ ap (λ (q : Side × Cents). Some (q .1)) (sym p),
+      ap (λ (q : Side × Cents). on-side (opposite (q .0)) (Bid d)) p,
+    )
 on-its-side (Ask d) s c h =
-    let p = some-same (s, c) (Sellers, d) h in
-    ( ap (λ (q : Side × Cents). on-side (q .0) (Ask d)) p ∙ ap (λ (q : Side × Cents). Some (q .1)) (sym p)
-    , ap (λ (q : Side × Cents). on-side (opposite (q .0)) (Ask d)) p )
+    let p = some-same (s, c) (Sellers, d) h in (
+      ap (λ (q : Side × Cents). on-side (q .0) (Ask d)) p ∙ ap (λ (q : Side × Cents). Some (q .1)) (sym p),
+      ap (λ (q : Side × Cents). on-side (opposite (q .0)) (Ask d)) p,
+    )
 
 on-no-side : (e : Entry) → None ≡ side-of e → e ≡ Nothing
 on-no-side Nothing h = refl
@@ -96,8 +98,8 @@ module _ (s : Side) (row : List Entry) (m : ℕ) (l : m < length row) where
       no-entry : (x : Ranked) → InRow s (set row m Nothing) x → x .member ≡ m → ⊥
       no-entry x h e =
           none-is-not-some (x .cents)
-            (sym (ap (on-side s) (getD-set-same row m Nothing Nothing l) ∙ nothing-on s)
-              ∙ ap (number s (set row m Nothing)) (sym e) ∙ h .1)
+          (sym (ap (on-side s) (getD-set-same row m Nothing Nothing l) ∙ nothing-on s)
+          ∙ ap (number s (set row m Nothing)) (sym e) ∙ h .1)
 
   -- the row's list, from the list without the member
   listed-by : ranked s own row ≡ entered s own m (on-side s (getD row m Nothing)) (ranked s own (set row m Nothing))
@@ -121,7 +123,7 @@ left ix ix′ k m e s c h this other size row l there w =
     let o = on-its-side e s c h in
     record {
       sides =
-        both-sides s (λ t. kind-list k t ix′ ≡ ranked t own (set row m Nothing))
+          both-sides s (λ t. kind-list k t ix′ ≡ ranked t own (set row m Nothing))
           (this ∙ ap (less m) (w .sides s) ∙ taken-out s row m l)
           (other ∙ w .sides (opposite s) ∙ not-on (opposite s) row m l (ap (on-side (opposite s)) there ∙ o .1));
       members = size ∙ w .members ∙ sym (length-set row m Nothing);
@@ -137,7 +139,7 @@ pub joined : (ix ix′ : Index) (k m : ℕ) (e : Entry) (s : Side) (c : Cents) �
 joined ix ix′ k m e s c h free was this other size row l there w =
     record {
       sides =
-        both-sides s (λ t. kind-list k t ix′ ≡ ranked t own (set row m e))
+          both-sides s (λ t. kind-list k t ix′ ≡ ranked t own (set row m e))
           (this ∙ rw is-free (ap (insert s own (record { member = m; cents = c })) (listed s)) ∙ sym (after s ∙ ap (λ (x : Option Cents). entered s own m x (ranked s own (set row m Nothing))) (o .0)))
           (other ∙ listed (opposite s) ∙ sym (after (opposite s) ∙ ap (λ (x : Option Cents). entered (opposite s) own m x (ranked (opposite s) own (set row m Nothing))) (o .1)));
       members = size ∙ w .members ∙ sym (length-set row m e);
@@ -145,14 +147,19 @@ joined ix ix′ k m e s c h free was this other size row l there w =
   where
     o : (on-side s e ≡ Some c) × (on-side (opposite s) e ≡ None)
     o = on-its-side e s c h
+
     empty : row ≡ set row m Nothing
     empty = sym (set-getD row m Nothing) ∙ ap (set row m) there
+
     listed : (t : Side) → kind-list k t ix ≡ ranked t own (set row m Nothing)
     listed t = w .sides t ∙ ap (ranked t own) empty
+
     after : (t : Side) → ranked t own (set row m e) ≡ entered t own m (on-side t e) (ranked t own (set row m Nothing))
     after t = ranked-set t own row m e (own-apart row) l
+
     absent : (t : Side) → has m (kind-list k t ix) ≡ false
     absent t = ap (has m) (listed t) ∙ not-there t row m l
+
     is-free : free ≡ true
     is-free = was ∙ rw (ap (ltb m) (w .members) ∙ lt-ltb m (length row) l, absent Buyers, absent Sellers)
 

@@ -19,7 +19,13 @@ use std::alloc::Global;
 impl Session {
     // Opens an evening: there is no entry, nothing is bid, no message has been taken, and the index is empty. A refused
     // opening changes nothing. No call after this one gets memory.
-    pub fn open(heap: Global, kinds: u8, members: u16, fund: HalfCents, books: &mut Books) -> Result<Session, Refusal>
+    pub fn open(
+        heap: Global,
+        kinds: u8,
+        members: u16,
+        fund: HalfCents,
+        books: &mut Books,
+    ) -> Result<Session, Refusal>
         ensures opened { λ r. ⌜ made r (λ s. (s .open .kinds ≡ kinds) × (s .open .members ≡ members) × (s .open .fund ≡ fund)) ⌝ }
         ensures refusal { λ r. ⌜ Refused-for (errPart r) (opening kinds members (fund .0) (held (now (books .entry)))) ⌝ }
         ensures entries { λ r. ⌜ now (now (books .exit) .entries) ≡ emptied (errPart r) (kinds * members) (now (now (books .entry) .entries)) ⌝ }

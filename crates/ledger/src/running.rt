@@ -15,7 +15,12 @@ const MESSAGE: usize = 12;
 impl Session {
     // Takes or refuses the messages in `bytes`, one after another, and writes down the answer to each: to as many as there
     // are places for answers.
-    pub fn take_all(mut self, books: &mut Books, bytes: &[u8], answers: &mut [Result<(), Refusal>]) -> Session
+    pub fn take_all(
+        mut self,
+        books: &mut Books,
+        bytes: &[u8],
+        answers: &mut [Result<(), Refusal>],
+    ) -> Session
         ensures open { λ r. ⌜ r .open ≡ self .open ⌝ }
         ensures after { λ _. ⌜ held (now (books .exit)) ≡ run (self .open .kinds) (self .open .members) (held (now (books .entry))) (messages (length (now (answers .entry))) (now (bytes .entry))) ⌝ }
         ensures answers { λ _. ⌜ now (answers .exit) ≡ written-over (answers-to (self .open .kinds) (self .open .members) (held (now (books .entry))) (messages (length (now (answers .entry))) (now (bytes .entry)))) (now (answers .entry)) ⌝ }

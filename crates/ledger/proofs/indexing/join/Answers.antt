@@ -7,7 +7,7 @@ pub returns-in-Some : need.returns-in-Some
 returns-in-Some c =
     record {
       row =
-        joined (c .args .index .now) (c .put-free .last .self) (c .args .kind) (c .args .member) (c .args .entry)
+          joined (c .args .index .now) (c .put-free .last .self) (c .args .kind) (c .args .member) (c .args .entry)
           (c .in-Some .side) (c .in-Some .cents) (c .in-Some .ensures tt) (c .put-free .result) (c .put-free .ensures .answer)
           (c .put-free .ensures .this) (c .put-free .ensures .other) (c .put-free .ensures .size (c .args .kind));
       rest = c .put-free .ensures .rest;

@@ -6,7 +6,7 @@ pub returns-in-Some : need.returns-in-Some
 returns-in-Some c =
     record {
       row =
-        left (c .args .index .now) (c .take-out-there .last .self) (c .args .kind) (c .args .member) (c .args .entry)
+          left (c .args .index .now) (c .take-out-there .last .self) (c .args .kind) (c .args .member) (c .args .entry)
           (c .in-Some .side) (c .in-Some .-cents) (c .in-Some .ensures tt) (c .take-out-there .ensures .this)
           (c .take-out-there .ensures .other) (c .take-out-there .ensures .size (c .args .kind));
       rest = c .take-out-there .ensures .rest;

@@ -17,10 +17,10 @@ returns-in-Ok c =
       answer = ap answer (c .in-Ok .ensures tt .order);
       after = search needs;
       indexed =
-        λ was.
+          λ was.
           subst (λ (codes : List ℕ). Indexed K M codes (c .replace .last .index)) (sym (c .in-Ok .ensures tt .entries))
-            (indexed-after K M (held (c .args .books .now)) (c .args .self .now .index) (c .replace .last .index) was
-              (c .args .message .now) (c .in-Ok .order) (sym (c .in-Ok .ensures tt .order))
-              (record { row = r .row; rest = r .rest; size = r .size }));
+          (indexed-after K M (held (c .args .books .now)) (c .args .self .now .index) (c .replace .last .index) was
+          (c .args .message .now) (c .in-Ok .order) (sym (c .in-Ok .ensures tt .order))
+          (record { row = r .row; rest = r .rest; size = r .size }));
       lent = c .enter .ensures .lent;
     }

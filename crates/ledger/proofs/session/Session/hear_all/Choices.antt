@@ -11,4 +11,4 @@ Inv-loop-i l =
     × Leads (l .entry .self .open .kinds) (l .entry .self .open .members) (held (l .entry .books)) (held (l .books)) (l .bytes) (l .rest) (l .entry .answers) (l .answers) (l .i)
     × SameLoans (l .entry .books) (l .books)
     × (Indexed (l .entry .self .open .kinds) (l .entry .self .open .members) (l .entry .books .entries .now) (l .entry .self .index)
-      → Indexed (l .entry .self .open .kinds) (l .entry .self .open .members) (l .books .entries .now) (l .self .index))
+    → Indexed (l .entry .self .open .kinds) (l .entry .self .open .members) (l .books .entries .now) (l .self .index))

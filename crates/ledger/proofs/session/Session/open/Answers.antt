@@ -20,7 +20,7 @@ returns-in-Ok-open c =
       fits = e .fits;
       sound = e .sound;
       indexed =
-        indexed-empty (c .args .kinds) (c .args .members) (c .open .last .books .entries .now)
+          indexed-empty (c .args .kinds) (c .args .members) (c .open .last .books .entries .now)
           (drop (c .args .kinds * c .args .members) (c .args .books .now .entries .now)) (c .in-Ok .index)
           (omega (arith, e .opened .1, c .in-Ok-open .open .«members_least»))
           (e .entries) (c .in-Ok .ensures tt .0) (c .in-Ok .ensures tt .1);
