@@ -8,4 +8,5 @@ demo:
 
 test:
 	@sh tests/cli.sh
+	@sh tests/random.sh
 	@rt ci

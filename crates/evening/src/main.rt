@@ -1,15 +1,22 @@
 // Holds an evening: reads it from standard input, takes its messages, closes it, and prints the result.
 mod memory;
 mod report;
+mod settle;
 
+use clearing::clear;
+use clearing::count_pairs;
 use ledger::Session;
 use memory::Memory;
 use orders::Books;
+use orders::HalfCents;
 use orders::Input;
 use orders::Refusal;
 use ranking::Ranked;
 use ranking::Side;
 use report::Report;
+use settle::Holdings;
+use settle::buy;
+use settle::sell;
 use std::alloc::AllocError;
 use std::env;
 use std::error::AnyError;
@@ -75,32 +82,40 @@ fn hold(rt: &LibcRuntime) -> Result<(), Fault> {
     let session = session.take_all(&mut books, input.messages, memory.answers.as_mut_slice());
     let mut report = Report::new(rt);
     report.answers(memory.answers.as_slice())?;
-    close(
-        &session,
-        memory.buyers.as_mut_slice(),
-        memory.sellers.as_mut_slice(),
-        &mut report,
-    )?;
+    let mut holdings = Holdings {
+        accounts: memory.accounts.as_mut_slice(),
+        berths: memory.berths.as_mut_slice(),
+        kinds: usize::from(input.kinds),
+    };
+    let buyers = memory.buyers.as_mut_slice();
+    let sellers = memory.sellers.as_mut_slice();
+    let fund = close(&session, &mut holdings, buyers, sellers, &mut report)?;
+    memory.entries.clear();
+    let closed = session.close(HalfCents(fund));
+    report.fund(closed.fund)?;
     Ok(())
 }
 
-// Goes kind by kind, and reports each.
+// Closes kind by kind, and reports each. Answers what the fund then holds.
 fn close(
     session: &Session,
+    holdings: &mut Holdings,
     buyers: &mut [Ranked],
     sellers: &mut [Ranked],
     report: &mut Report,
-) -> io::Result<()> {
+) -> io::Result<u64> {
     let mut fund = session.open.fund.0;
     for kind in 0..session.open.kinds {
-        fund = fund.saturating_add(close_kind(session, kind, buyers, sellers, report)?);
+        let takings = close_kind(session, holdings, kind, buyers, sellers, report)?;
+        fund = fund.saturating_add(takings);
     }
-    report.fund(fund)
+    Ok(fund)
 }
 
-// Ranks a kind and reports it. Answers what the fund gets.
+// Ranks a kind, settles its trades and reports it. Answers what the fund gets.
 fn close_kind(
     session: &Session,
+    holdings: &mut Holdings,
     kind: u8,
     buyers: &mut [Ranked],
     sellers: &mut [Ranked],
@@ -108,7 +123,23 @@ fn close_kind(
 ) -> io::Result<u64> {
     let buying = session.ranks(kind, Side::Buyers, buyers);
     let selling = session.ranks(kind, Side::Sellers, sellers);
-    report.kind(kind, &buyers[0..buying], &sellers[0..selling])
+    let pairs = count_pairs(&buyers[0..buying], &sellers[0..selling]);
+    let outcome = clear(&buyers[0..buying], &sellers[0..selling]);
+    let trades = outcome.trades().min(buying).min(selling);
+    buy(holdings, kind, &buyers[0..trades], outcome.buyers_price().0);
+    sell(
+        holdings,
+        kind,
+        &sellers[0..trades],
+        outcome.sellers_price().0,
+    );
+    report.kind(
+        kind,
+        pairs,
+        outcome,
+        &buyers[0..trades],
+        &sellers[0..trades],
+    )
 }
 
 fn main(rt: LibcRuntime) -> Result<(), AnyError> {

@@ -1,6 +1,5 @@
 // What an evening prints.
-use clearing::clear;
-use clearing::count_pairs;
+use clearing::Outcome;
 use orders::HalfCents;
 use orders::Refusal;
 use ranking::Ranked;
@@ -37,22 +36,27 @@ impl Report {
     }
 
     // A kind's line, then its buyers who trade in the order of ranks, then its sellers. Answers what the fund gets.
-    pub fn kind(&mut self, kind: u8, buyers: &[Ranked], sellers: &[Ranked]) -> io::Result<u64> {
-        let pairs = count_pairs(buyers, sellers);
-        let outcome = clear(buyers, sellers);
+    pub fn kind(
+        &mut self,
+        kind: u8,
+        pairs: usize,
+        outcome: Outcome,
+        buyers: &[Ranked],
+        sellers: &[Ranked],
+    ) -> io::Result<u64> {
         let trades = outcome.trades();
         let HalfCents(pay) = outcome.buyers_price();
         let HalfCents(get) = outcome.sellers_price();
         let HalfCents(fund) = outcome.fund().unwrap_or(HalfCents(u64::MAX));
         writeln!(
             self.out,
-            "kind {kind} pairs {pairs} trades {trades} buyers {pay} sellers {get} fund {fund}"
+            "kind {kind} pairs {pairs} trades {trades} buyers {pay} sellers {get} fund {fund}",
         )?;
-        for buyer in buyers.iter().take(trades) {
+        for buyer in buyers {
             let member = buyer.member;
             writeln!(self.out, "member {member} buys {pay}")?;
         }
-        for seller in sellers.iter().take(trades) {
+        for seller in sellers {
             let member = seller.member;
             writeln!(self.out, "member {member} sells {get}")?;
         }
@@ -60,7 +64,8 @@ impl Report {
     }
 
     // The last line; then all is written.
-    pub fn fund(&mut self, fund: u64) -> io::Result<()> {
+    pub fn fund(&mut self, fund: HalfCents) -> io::Result<()> {
+        let HalfCents(fund) = fund;
         writeln!(self.out, "fund {fund}")?;
         self.out.flush()
     }

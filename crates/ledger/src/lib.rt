@@ -1,4 +1,5 @@
 // The ledger: an evening with the index of its entries, kept while messages come.
+mod closing;
 mod indexing;
 mod opening;
 mod ranks;
