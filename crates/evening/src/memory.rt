@@ -20,7 +20,7 @@ pub struct Memory {
 }
 
 impl Memory {
-    pub fn for_input(heap: Global, input: &Input) -> Result<Memory, AllocError> {
+    pub(crate) fn for_input(heap: Global, input: &Input) -> Result<Memory, AllocError> {
         let (kinds, members) = Memory::extent(input);
         let slots = kinds * members;
         let nobody = Ranked {

@@ -14,14 +14,14 @@ pub struct Report {
 }
 
 impl Report {
-    pub fn new(rt: &LibcRuntime) -> Report {
+    pub(crate) fn new(rt: &LibcRuntime) -> Report {
         Report {
             out: BufWriter::new(rt.stdout()),
         }
     }
 
     // The refused messages, by their places in the input.
-    pub fn answers(&mut self, answers: &[Result<(), Refusal>]) -> io::Result<()> {
+    pub(crate) fn answers(&mut self, answers: &[Result<(), Refusal>]) -> io::Result<()> {
         for (i, answer) in answers.iter().enumerate() {
             if let Err(refusal) = answer {
                 writeln!(
@@ -36,7 +36,7 @@ impl Report {
     }
 
     // A kind's line, then its buyers who trade in the order of ranks, then its sellers. Answers what the fund gets.
-    pub fn kind(
+    pub(crate) fn kind(
         &mut self,
         kind: u8,
         pairs: usize,
@@ -64,7 +64,7 @@ impl Report {
     }
 
     // The last line; then all is written.
-    pub fn fund(&mut self, fund: HalfCents) -> io::Result<()> {
+    pub(crate) fn fund(&mut self, fund: HalfCents) -> io::Result<()> {
         let HalfCents(fund) = fund;
         writeln!(self.out, "fund {fund}")?;
         self.out.flush()

@@ -11,7 +11,7 @@ pub struct Holdings<'a> {
 }
 
 // Takes the price from each buyer's account, and gives it a berth of the kind.
-pub fn buy(holdings: &mut Holdings, kind: u8, buyers: &[Ranked], price: u64) {
+pub(crate) fn buy(holdings: &mut Holdings, kind: u8, buyers: &[Ranked], price: u64) {
     for buyer in buyers {
         let member = usize::from(buyer.member);
         if member < holdings.accounts.len() {
@@ -27,7 +27,7 @@ pub fn buy(holdings: &mut Holdings, kind: u8, buyers: &[Ranked], price: u64) {
 }
 
 // Adds the price to each seller's account, and takes a berth of the kind from it.
-pub fn sell(holdings: &mut Holdings, kind: u8, sellers: &[Ranked], price: u64) {
+pub(crate) fn sell(holdings: &mut Holdings, kind: u8, sellers: &[Ranked], price: u64) {
     for seller in sellers {
         let member = usize::from(seller.member);
         if member < holdings.accounts.len() {
