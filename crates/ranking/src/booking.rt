@@ -23,7 +23,13 @@ pub const FREE: Node = Node {
 };
 
 // Puts a member that is on neither side into one, with its number.
-pub fn enter(nodes: &mut [Node], keys: &mut [Cents], roots: Roots, side: Side, new: Ranked) -> Roots
+pub(crate) fn enter(
+    nodes: &mut [Node],
+    keys: &mut [Cents],
+    roots: Roots,
+    side: Side,
+    new: Ranked,
+) -> Roots
     requires { ⌜ Fresh (now nodes) (now keys) roots (new .member) ⌝ }
     ensures { λ r. ⌜ Booked side (now (nodes .entry)) (now (keys .entry)) roots (now (nodes .exit)) (now (keys .exit)) r (inserted side own new (list-of side (now (nodes .entry)) (now (keys .entry)) roots)) ⌝ }
 {
@@ -33,7 +39,13 @@ pub fn enter(nodes: &mut [Node], keys: &mut [Cents], roots: Roots, side: Side, n
 }
 
 // Takes a member out of a side, if it is there.
-pub fn leave(nodes: &mut [Node], keys: &[Cents], roots: Roots, side: Side, member: u16) -> Roots
+pub(crate) fn leave(
+    nodes: &mut [Node],
+    keys: &[Cents],
+    roots: Roots,
+    side: Side,
+    member: u16,
+) -> Roots
     requires sound { ⌜ Sound (now nodes) (now keys) roots ⌝ }
     requires within { ⌜ member < length (now nodes) ⌝ }
     ensures { λ r. ⌜ Booked side (now (nodes .entry)) (now (keys .entry)) roots (now (nodes .exit)) (now (keys .entry)) r (less member (list-of side (now (nodes .entry)) (now (keys .entry)) roots)) ⌝ }

@@ -14,7 +14,13 @@ use crate::tree::size_of;
 use orders::Cents;
 
 // How many members of a tree come before one that need not be there.
-pub fn count_before(nodes: &[Node], keys: &[Cents], side: Side, root: u16, limit: Ranked) -> u16
+pub(crate) fn count_before(
+    nodes: &[Node],
+    keys: &[Cents],
+    side: Side,
+    root: u16,
+    limit: Ranked,
+) -> u16
     requires tree { ⌜ Held (now nodes) root ⌝ }
     requires keys { ⌜ length (now keys) ≡ length (now nodes) ⌝ }
     ensures { λ r. ⌜ ((t : Tree) → Stands (now (nodes .entry)) root t → r ≡ passed (follows side (now (keys .entry)) limit) t) ⌝ }
@@ -38,7 +44,7 @@ pub fn count_before(nodes: &[Node], keys: &[Cents], side: Side, root: u16, limit
 }
 
 // The member of a tree at a place, from 0.
-pub fn member_at(nodes: &[Node], root: u16, place: u16) -> Option<u16>
+pub(crate) fn member_at(nodes: &[Node], root: u16, place: u16) -> Option<u16>
     requires { ⌜ Held (now nodes) root ⌝ }
     ensures { λ r. ⌜ ((t : Tree) → Stands (now (nodes .entry)) root t → r ≡ picked place t) ⌝ }
 {

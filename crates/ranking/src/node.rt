@@ -14,13 +14,13 @@ pub enum Hand {
 
 impl Hand {
     // Where a member is that comes before the root, or does not.
-    pub fn of(before: bool) -> Hand
+    pub(crate) fn of(before: bool) -> Hand
         ensures { λ r. ⌜ r ≡ hand-of before ⌝ }
     {
         if before { Hand::Left } else { Hand::Right }
     }
 
-    pub fn other(self) -> Hand
+    pub(crate) fn other(self) -> Hand
         ensures { λ r. ⌜ r ≡ other self ⌝ }
     {
         match self {
@@ -40,7 +40,7 @@ pub struct Node {
 
 impl Node {
     // A node with a child on a hand, `far`, and one on the other, `near`.
-    pub fn of(hand: Hand, near: u16, far: u16, count: u16) -> Node
+    pub(crate) fn of(hand: Hand, near: u16, far: u16, count: u16) -> Node
         ensures { λ r. ⌜ r ≡ node-of hand near far count ⌝ }
     {
         match hand {
@@ -58,7 +58,7 @@ impl Node {
     }
 
     // The child on a hand.
-    pub fn outer(self, hand: Hand) -> u16
+    pub(crate) fn outer(self, hand: Hand) -> u16
         ensures { λ r. ⌜ r ≡ outer-at hand self ⌝ }
     {
         match hand {
@@ -68,7 +68,7 @@ impl Node {
     }
 
     // The child on the other hand.
-    pub fn inner(self, hand: Hand) -> u16
+    pub(crate) fn inner(self, hand: Hand) -> u16
         ensures { λ r. ⌜ r ≡ inner-at hand self ⌝ }
     {
         match hand {

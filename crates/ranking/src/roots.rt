@@ -10,7 +10,7 @@ pub struct Roots {
 }
 
 impl Roots {
-    pub fn of(self, side: Side) -> u16
+    pub(crate) fn of(self, side: Side) -> u16
         ensures { λ r. ⌜ r ≡ root-of side self ⌝ }
     {
         match side {
@@ -20,7 +20,7 @@ impl Roots {
     }
 
     // The same roots but for one side's.
-    pub fn with(self, side: Side, root: u16) -> Roots
+    pub(crate) fn with(self, side: Side, root: u16) -> Roots
         ensures { λ r. ⌜ r ≡ with-root side root self ⌝ }
     {
         match side {

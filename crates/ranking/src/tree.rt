@@ -10,7 +10,7 @@ use crate::node::NONE;
 use crate::node::Node;
 
 // How many members are in a tree.
-pub fn size_of(nodes: &[Node], root: u16) -> u16
+pub(crate) fn size_of(nodes: &[Node], root: u16) -> u16
     requires { ⌜ Slot (now nodes) root ⌝ }
     ensures { λ r. ⌜ r ≡ size-at (now (nodes .entry)) root ⌝ }
 {
@@ -30,7 +30,7 @@ fn weight(nodes: &[Node], root: u16) -> u32
 }
 
 // Makes one tree of `near` and `far` with `root` above them, `far` on a hand.
-pub fn join(nodes: &mut [Node], hand: Hand, root: u16, near: u16, far: u16)
+pub(crate) fn join(nodes: &mut [Node], hand: Hand, root: u16, near: u16, far: u16)
     requires { ⌜ HeldParts (now nodes) root near far ⌝ }
     ensures { λ _. ⌜ ((t u : Tree) → Parts (now (nodes .entry)) root near far t u → Became (now (nodes .entry)) (now (nodes .exit)) root (fork hand t root u) (node t root u)) ⌝ }
 {
@@ -77,7 +77,7 @@ fn lift(nodes: &mut [Node], hand: Hand, root: u16, near: u16, far: u16) -> u16
 }
 
 // Makes one tree of `near`, `root` and `far`, of which only `far` may be too heavy.
-pub fn balance(nodes: &mut [Node], hand: Hand, root: u16, near: u16, far: u16) -> u16
+pub(crate) fn balance(nodes: &mut [Node], hand: Hand, root: u16, near: u16, far: u16) -> u16
     requires { ⌜ HeldParts (now nodes) root near far ⌝ }
     ensures { λ r. ⌜ ((t u : Tree) → Parts (now (nodes .entry)) root near far t u → Became (now (nodes .entry)) (now (nodes .exit)) r (balanced hand t root u) (node t root u)) ⌝ }
 {

@@ -28,7 +28,7 @@ use std::alloc::Global;
 
 impl Book {
     // How many members are on a side.
-    pub fn len(&self, side: Side) -> u16
+    pub(crate) fn len(&self, side: Side) -> u16
         ensures count { λ r. ⌜ r ≡ length (listed side (now (self .entry))) ⌝ }
         ensures ordered { λ r. ⌜ Ordered side (listed side (now (self .entry))) ⌝ }
         ensures shallow { λ r. ⌜ 4 ^ depth side (now (self .entry)) ≤ 3 ^ depth side (now (self .entry)) * (r + 1) ⌝ }
@@ -37,7 +37,7 @@ impl Book {
     }
 
     // Takes a member in on a side; not one that is on a side already, or that there is not.
-    pub fn put(&mut self, side: Side, member: u16, cents: Cents) -> bool
+    pub(crate) fn put(&mut self, side: Side, member: u16, cents: Cents) -> bool
         ensures answer { λ r. ⌜ r ≡ fresh member (now (self .entry)) ⌝ }
         ensures this { λ r. ⌜ listed side (now (self .exit)) ≡ cond r (inserted side own (ranked-as member cents) (listed side (now (self .entry)))) (listed side (now (self .entry))) ⌝ }
         ensures other { λ r. ⌜ listed (opposite side) (now (self .exit)) ≡ listed (opposite side) (now (self .entry)) ⌝ }
@@ -56,7 +56,7 @@ impl Book {
     }
 
     // Takes a member out of a side, if it is there.
-    pub fn take_out(&mut self, side: Side, member: u16) -> bool
+    pub(crate) fn take_out(&mut self, side: Side, member: u16) -> bool
         ensures answer { λ r. ⌜ r ≡ has member (listed side (now (self .entry))) ⌝ }
         ensures this { λ r. ⌜ listed side (now (self .exit)) ≡ less member (listed side (now (self .entry))) ⌝ }
         ensures other { λ r. ⌜ listed (opposite side) (now (self .exit)) ≡ listed (opposite side) (now (self .entry)) ⌝ }
@@ -71,14 +71,14 @@ impl Book {
     }
 
     // How many members of a side come before a number with a tie, which need not be there.
-    pub fn count_before(&self, side: Side, limit: Ranked) -> u16
+    pub(crate) fn count_before(&self, side: Side, limit: Ranked) -> u16
         ensures { λ r. ⌜ r ≡ countBy (λ x. before side own x limit) (listed side (now (self .entry))) ⌝ }
     {
         lookup::count_before(&self.nodes, &self.keys, side, self.roots.of(side), limit)
     }
 
     // The member of a rank, with its number.
-    pub fn member_at(&self, side: Side, rank: u16) -> Option<Ranked>
+    pub(crate) fn member_at(&self, side: Side, rank: u16) -> Option<Ranked>
         ensures { λ r. ⌜ r ≡ nth (listed side (now (self .entry))) rank ⌝ }
     {
         match lookup::member_at(&self.nodes, self.roots.of(side), rank) {
@@ -91,7 +91,7 @@ impl Book {
     }
 
     // A book of so many members, with none of them on a side.
-    pub fn new(heap: Global, count: u16) -> Result<Book, AllocError>
+    pub(crate) fn new(heap: Global, count: u16) -> Result<Book, AllocError>
         ensures { λ r. ⌜ made r (λ b. (members b ≡ count) × ((s : OneSide) → listed s b ≡ [])) ⌝ }
     {
         let nodes = vec![in heap; FREE; count as usize]?;
