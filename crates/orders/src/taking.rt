@@ -8,10 +8,8 @@ ghost use Rattle.std.specs.declared.option.Option.the-variants.{Some, None};
 ghost use Rattle.orders.specs.Taking.{allowed, entering, ruling};
 ghost use Rattle.std.specs.Options.{valueOr};
 ghost use Rattle.std.specs.declared.result.Result.the-variants.{Ok};
-ghost use Rattle.std.specs.Results.{isOk};
 ghost use Rattle.orders.specs.Entries.{encoded, bid-in};
-ghost use Rattle.orders.specs.Statements.{Taken-when-due};
-ghost use Rattle.orders.specs.Lent.{held, lacking, entry-at, position, Fits, judged, entries-after, numbers-after, committed-after, answer, held-after, SameLoans};
+ghost use Rattle.orders.specs.Lent.{held, lacking, entry-at, position, Fits, judged, entries-after, numbers-after, committed-after, SameLoans};
 use crate::books::Books;
 use crate::entry::Entry;
 use crate::evening::Open;
@@ -45,29 +43,23 @@ impl Open {
         None
     }
 
-    // Takes a message or refuses it, and hands the evening on.
-    pub fn take(self, books: &mut Books, message: &[u8]) -> (Open, Result<(), Refusal>)
-        ensures open { λ r. ⌜ r .0 ≡ self ⌝ }
-        ensures answer { λ r. ⌜ r .1 ≡ answer (judged (self .kinds) (self .members) (held (now (books .entry))) (now (message .entry))) ⌝ }
-        ensures after { λ _. ⌜ held (now (books .exit)) ≡ held-after (self .kinds) (self .members) (held (now (books .entry))) (now (message .entry)) ⌝ }
+    // Takes a message or refuses it, and answers with the order that it is. What is refused changes nothing.
+    pub fn enter(&self, books: &mut Books, message: &[u8]) -> Result<Order, Refusal>
+        ensures order { λ r. ⌜ r ≡ judged (now (self .entry) .kinds) (now (self .entry) .members) (held (now (books .entry))) (now (message .entry)) ⌝ }
+        ensures entries { λ r. ⌜ now (now (books .exit) .entries) ≡ entries-after (now (self .entry) .members) (now (now (books .entry) .entries)) r ⌝ }
+        ensures numbers { λ r. ⌜ now (now (books .exit) .numbers) ≡ numbers-after (now (now (books .entry) .numbers)) r ⌝ }
+        ensures committed { λ r. ⌜ now (now (books .exit) .committed) ≡ committed-after (now (now (books .entry) .committed)) r ⌝ }
+        ensures accounts { λ _. ⌜ now (now (books .exit) .accounts) ≡ now (now (books .entry) .accounts) ⌝ }
+        ensures berths { λ _. ⌜ now (now (books .exit) .berths) ≡ now (now (books .entry) .berths) ⌝ }
         ensures lent { λ _. ⌜ SameLoans (now (books .entry)) (now (books .exit)) ⌝ }
-        ensures due { λ r. ⌜ Taken-when-due (self .kinds) (self .members) (held (now (books .entry))) (now (message .entry)) (isOk (r .1)) ⌝ }
     {
-        let answer = self.hear(books, message);
-        (self, answer)
-    }
-
-    // Takes a message or refuses it. What is refused changes nothing.
-    pub(crate) fn hear(&self, books: &mut Books, message: &[u8]) -> Result<(), Refusal>
-        ensures answer { λ r. ⌜ r ≡ answer (judged (now (self .entry) .kinds) (now (self .entry) .members) (held (now (books .entry))) (now (message .entry))) ⌝ }
-        ensures after { λ _. ⌜ held (now (books .exit)) ≡ held-after (now (self .entry) .kinds) (now (self .entry) .members) (held (now (books .entry))) (now (message .entry)) ⌝ }
-        ensures lent { λ _. ⌜ SameLoans (now (books .entry)) (now (books .exit)) ⌝ }
-        ensures due { λ r. ⌜ Taken-when-due (now (self .entry) .kinds) (now (self .entry) .members) (held (now (books .entry))) (now (message .entry)) (isOk r) ⌝ }
-    {
-        match self.enter(books, message) {
-            Ok(_) => Ok(()),
-            Err(refusal) => Err(refusal),
+        if let Some(part) = self.lacks(books) {
+            return Err(Refusal::Short(part));
         }
+        let message = Message::read(message)?;
+        let order = self.judge(books, message)?;
+        self.write(books, order);
+        Ok(order)
     }
 
     fn member(&self, number: u16) -> Option<Member>
@@ -215,25 +207,6 @@ impl Open {
         let member = usize::from(order.member.0);
         books.numbers[member] = order.number;
         books.committed[member] = order.committed.0;
-    }
-
-    // Takes a message or refuses it, and answers with the order that it is. What is refused changes nothing.
-    pub fn enter(&self, books: &mut Books, message: &[u8]) -> Result<Order, Refusal>
-        ensures order { λ r. ⌜ r ≡ judged (now (self .entry) .kinds) (now (self .entry) .members) (held (now (books .entry))) (now (message .entry)) ⌝ }
-        ensures entries { λ r. ⌜ now (now (books .exit) .entries) ≡ entries-after (now (self .entry) .members) (now (now (books .entry) .entries)) r ⌝ }
-        ensures numbers { λ r. ⌜ now (now (books .exit) .numbers) ≡ numbers-after (now (now (books .entry) .numbers)) r ⌝ }
-        ensures committed { λ r. ⌜ now (now (books .exit) .committed) ≡ committed-after (now (now (books .entry) .committed)) r ⌝ }
-        ensures accounts { λ _. ⌜ now (now (books .exit) .accounts) ≡ now (now (books .entry) .accounts) ⌝ }
-        ensures berths { λ _. ⌜ now (now (books .exit) .berths) ≡ now (now (books .entry) .berths) ⌝ }
-        ensures lent { λ _. ⌜ SameLoans (now (books .entry)) (now (books .exit)) ⌝ }
-    {
-        if let Some(part) = self.lacks(books) {
-            return Err(Refusal::Short(part));
-        }
-        let message = Message::read(message)?;
-        let order = self.judge(books, message)?;
-        self.write(books, order);
-        Ok(order)
     }
 }
 
