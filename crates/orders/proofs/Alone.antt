@@ -1,7 +1,7 @@
 -- Each member's position and answers after a row of messages are those after its own messages alone.
-use Rattle.std.proofs.Common.{◌≡◌, ℕ, suc, ◌+◌, ◌*◌, ◌<◌, Bool, true, false, cond, ◌&&◌, ◌||◌, eqb, ltb, List, [], ◌∷◌, ◌++◌, length, Ok, Err, Option, Result, unwrap_or, sym, refl, ap, ◌∙◌, ap₂, arith}
+use Rattle.std.proofs.Common.{◌≡◌, ℕ, ◌+◌, ◌*◌, ◌<◌, Bool, true, false, cond, eqb, ltb, List, [], ◌∷◌, ◌++◌, length, Ok, Err, Option, Result, unwrap_or, sym, refl, ap, ◌∙◌, ap₂}
 use Rattle.std.proofs.lemmas.List.{length-set}
-use Rattle.std.proofs.lemmas.Bool.{eqb-true, eq-eqb, and_parts}
+use Rattle.std.proofs.lemmas.Bool.{eqb-true, and_parts}
 use Rattle.orders.specs.declared.order.Order.{Order}
 use Rattle.orders.specs.declared.refusal.Part.{Part}
 use Rattle.orders.specs.declared.refusal.Refusal.{Refusal}
@@ -9,7 +9,7 @@ use Rattle.orders.specs.declared.refusal.Refusal.TheVariants.{NoMember}
 use Rattle.orders.specs.Entries.{encoded}
 use Rattle.orders.specs.Words.{word2}
 use Rattle.orders.specs.Messages.{fields}
-use Rattle.orders.specs.Taking.{Position, ruling, ruling_at}
+use Rattle.orders.specs.Taking.{Position, ruling_at}
 use Rattle.orders.specs.Lent.{Held, lacking, position, unless_short, judged, entries_after, numbers_after, committed_after, answer, held_after}
 use Rattle.orders.specs.Members.{is_of, own, own_answers, moved}
 use Rattle.orders.specs.Running.{run, answers_to, written_over}

@@ -1,13 +1,11 @@
 -- An entry is read again as it was written.
-use Rattle.std.proofs.Common.{◌≡◌, ℕ, ◌+◌, ◌-◌, ◌<◌, ◌≤◌, Bool, true, false, cond, ◌&&◌, eqb, ltb, leb, ◌⊎◌, Some, None, Ok, Err, Option, Result, unwrap_or, sym, refl, ap, ◌∙◌, inl, inr, arith}
+use Rattle.std.proofs.Common.{◌≡◌, ℕ, ◌+◌, Bool, true, false, cond, ◌⊎◌, Some, None, sym, refl, inl, inr, arith}
 use Rattle.std.proofs.lemmas.Bool.Decides.{nat_tests}
 use Rattle.orders.specs.declared.entry.Entry.{Entry}
 use Rattle.orders.specs.declared.entry.Entry.TheVariants.{Nothing, Bid, Ask}
 use Rattle.orders.specs.declared.money.Cents.{Cents}
-use Rattle.orders.specs.declared.refusal.Refusal.{Refusal}
-use Rattle.orders.specs.Entries.{encoded, decoded, entry_of}
+use Rattle.orders.specs.Entries.{encoded, decoded}
 use Rattle.orders.specs.Range.{in_range}
-use Rattle.orders.specs.Taking.{asked}
 
 decoded_bid : (c : Cents) → in_range c.0 ≡ true → decoded (16777216 + c.0) ≡ Some (Bid c)
 decoded_bid c h = grind (arith, nat_tests)

@@ -1,17 +1,17 @@
 -- A message is taken exactly when it is due.
-use Rattle.std.proofs.Common.{◌≡◌, ℕ, suc, ◌+◌, ◌*◌, ◌<◌, ◌≤◌, Bool, true, false, cond, ◌&&◌, eqb, ltb, leb, ◌⊎◌, List, length, is_ok, None, Ok, Err, Result, sym, refl, ap, ◌∙◌, subst, inl, inr, ⊎_elim, arith}
+use Rattle.std.proofs.Common.{◌≡◌, ℕ, ◌*◌, ◌<◌, ◌≤◌, Bool, true, eqb, leb, ◌⊎◌, List, length, is_ok, None, Ok, Err, Result, refl, ap, ◌∙◌, subst, ⊎_elim, arith}
 use Rattle.std.proofs.lemmas.Bool.{leb-true, lt-ltb, le-ltb, le-leb, eq-eqb, eqb-true, and_parts, and_from}
 use Rattle.std.proofs.lemmas.Bool.Decides.{Decides-at}
 use Rattle.orders.specs.declared.refusal.Refusal.TheVariants.{Length}
 use Rattle.orders.specs.Messages.{fields, message_of}
 use Rattle.orders.specs.Lent.{Held, Fits, lacking, position, judged, answer}
 use Rattle.orders.specs.declared.entry.Entry.{Entry}
-use Rattle.orders.specs.declared.entry.Entry.TheVariants.{Nothing, Bid, Ask}
+use Rattle.orders.specs.declared.entry.Entry.TheVariants.{Bid}
 use Rattle.orders.specs.declared.message.Message.{Message}
 use Rattle.orders.specs.declared.order.Order.{Order}
 use Rattle.orders.specs.declared.refusal.Refusal.{Refusal}
 use Rattle.orders.specs.Range.{in_range}
-use Rattle.orders.specs.Taking.{Position, committed_with, asked, allowed, and_then, order_of, entering, ruling}
+use Rattle.orders.specs.Taking.{Position, committed_with, asked, allowed, and_then, ruling}
 use Rattle.orders.specs.Members.{bids, with_entry, Backed, Sound, written, Due}
 use Rattle.orders.specs.Statements.{TakenWhenDue}
 use Rattle.orders.proofs.Rulings.{Ordered, ordered, ok_cond, ok_and_then, Asks, for_nothing, for_bid, for_ask, asks_for}

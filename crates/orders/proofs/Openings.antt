@@ -4,13 +4,13 @@ use Rattle.std.proofs.lemmas.Nat.{mul-add-lt}
 use Rattle.std.proofs.lemmas.List.{get_or_append_left, get_or-replicate, length-replicate, length-append, length-drop, length-take, get_or-take}
 use Rattle.std.proofs.lemmas.Bool.{leb-true, ltb-false, le-ltb, and_parts}
 use Rattle.orders.specs.declared.entry.Entry.{Entry}
-use Rattle.orders.specs.declared.entry.Entry.TheVariants.{Nothing, Bid, Ask}
+use Rattle.orders.specs.declared.entry.Entry.TheVariants.{Nothing}
 use Rattle.orders.specs.declared.refusal.Part.{Part}
 use Rattle.orders.specs.declared.refusal.Refusal.{Refusal}
 use Rattle.orders.specs.declared.refusal.Refusal.TheVariants.{Kinds, Members, Account, Fund, Short}
 use Rattle.orders.specs.Entries.{bid_in, entry_of}
 use Rattle.orders.specs.Lent.{Held, Fits, lacking, position}
-use Rattle.orders.specs.Members.{bids, Backed, Sound}
+use Rattle.orders.specs.Members.{bids, Backed}
 use Rattle.orders.specs.Opening.{first_over, short_part, account_or, opening}
 use Rattle.orders.specs.Statements.{AllSound}
 use Rattle.orders.proofs.Positions.{fits_from}

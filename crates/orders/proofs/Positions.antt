@@ -1,11 +1,9 @@
 -- What a message does to each member's position: to its own member's what an order leaves, to any other's nothing.
-use Rattle.std.proofs.Common.{◌≡◌, ℕ, ◌+◌, ◌-◌, ◌*◌, ◌/◌, ◌%◌, ◌<◌, ◌≤◌, Bool, true, false, cond, ◌&&◌, ◌||◌, eqb, ltb, leb, ◌≢◌, List, length, get_or, set, Some, None, Ok, Err, Option, Result, unwrap_or, sym, refl, ap, ◌∙◌, ⊎_elim, arith}
-use mathlib.Core.Path.{fun_ext}
+use Rattle.std.proofs.Common.{◌≡◌, ℕ, ◌+◌, ◌*◌, ◌/◌, ◌%◌, ◌<◌, Bool, true, false, cond, ◌||◌, eqb, ltb, ◌≢◌, List, length, get_or, set, Some, None, Ok, Err, Option, Result, unwrap_or, sym, refl, ap, ◌∙◌, ⊎_elim, arith}
 use Rattle.std.proofs.lemmas.Nat.{mul-add-lt, mod-mul-add, div-mul-add}
 use Rattle.std.proofs.lemmas.List.{get_or-set_same, get_or-set_other}
-use Rattle.std.proofs.lemmas.Bool.{eqb-true, eqb-false, eq-eqb, ne_eqb, ltb-false, and_parts, and_from, or_parts, cases_eq, both_ways}
+use Rattle.std.proofs.lemmas.Bool.{eqb-true, eq-eqb, ne_eqb, ltb-false, and_parts, and_from, or_parts, cases_eq, both_ways}
 use Rattle.orders.specs.declared.entry.Entry.{Entry}
-use Rattle.orders.specs.declared.message.Message.{Message}
 use Rattle.orders.specs.declared.order.Order.{Order}
 use Rattle.orders.specs.declared.refusal.Part.{Part}
 use Rattle.orders.specs.declared.refusal.Part.TheVariants.{Entries, Accounts, Berths}
@@ -14,10 +12,9 @@ use Rattle.orders.specs.declared.refusal.Refusal.TheVariants.{Length, Short}
 use Rattle.orders.specs.Entries.{encoded, entry_of}
 use Rattle.orders.specs.Words.{word2}
 use Rattle.orders.specs.Messages.{fields, message_of}
-use Rattle.orders.specs.Taking.{Position, and_then, order_of, ruling}
+use Rattle.orders.specs.Taking.{Position, and_then, ruling}
 use Rattle.orders.specs.Lent.{Held, Fits, lacking, entry_at, position, unless_short, judged, entries_after, numbers_after, committed_after, held_after}
 use Rattle.orders.specs.Members.{is_of, with_entry, moved}
-use Rattle.orders.proofs.Codes.{either_cond}
 use Rattle.orders.proofs.Rulings.{Ordered, ordered, ok_cond, ok_and_then, err_is_not_ok, asks_for, coded}
 
 -- nothing lacks: all parts are long enough

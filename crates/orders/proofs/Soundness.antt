@@ -1,5 +1,5 @@
 -- A member's bids stay covered and its entries backed, whatever messages come.
-use Rattle.std.proofs.Common.{◌≡◌, ℕ, zero, suc, ◌+◌, ◌*◌, ◌<◌, ◌≤◌, Bool, true, false, cond, eqb, ltb, leb, ◌≢◌, List, [], ◌∷◌, length, Ok, Err, Result, sym, refl, ap, ◌∙◌, subst, ⊎_elim, arith}
+use Rattle.std.proofs.Common.{◌≡◌, ℕ, ◌*◌, ◌<◌, ◌≤◌, Bool, true, false, cond, eqb, ltb, leb, List, [], ◌∷◌, length, Ok, Err, Result, sym, refl, subst, ⊎_elim, arith}
 use Rattle.std.proofs.lemmas.Bool.{leb-true, ltb-true, eqb-true, and_parts, cases_eq}
 use Rattle.orders.specs.declared.entry.Entry.{Entry}
 use Rattle.orders.specs.declared.entry.Entry.TheVariants.{Nothing, Bid, Ask}
@@ -7,8 +7,7 @@ use Rattle.orders.specs.declared.message.Message.{Message}
 use Rattle.orders.specs.declared.order.Order.{Order}
 use Rattle.orders.specs.declared.refusal.Refusal.{Refusal}
 use Rattle.orders.specs.declared.refusal.Refusal.TheVariants.{Uncovered, Full, Unbacked}
-use Rattle.orders.specs.Entries.{bid_in}
-use Rattle.orders.specs.Taking.{Position, committed_with, allowed, order_of}
+use Rattle.orders.specs.Taking.{Position, committed_with, allowed}
 use Rattle.orders.specs.Words.{word2}
 use Rattle.orders.specs.Messages.{fields}
 use Rattle.orders.specs.Lent.{Held, position, judged, held_after}

@@ -1,10 +1,9 @@
 -- An entry is what a member has in a kind: nothing, a bid or an ask of 1 to 10,000,000 cents. In memory and in files it
 -- is one number: 0 for nothing, 2^24 + cents for a bid, 2 × 2^24 + cents for an ask. A kind's row of entries has one for
 -- each member; a number that stands for no entry is read there as nothing.
-use Rattle.std.specs.Prelude.{ℕ, ◌+◌, ◌-◌, ◌*◌, cond, ◌&&◌, List, [], ◌∷◌, map, take, drop, Some, None, Option, ◌==◌, nat_le, nat_lt}
+use Rattle.std.specs.Prelude.{ℕ, ◌+◌, ◌-◌, ◌*◌, cond, ◌&&◌, List, map, take, drop, Some, None, Option, ◌==◌, nat_le, nat_lt}
 use Rattle.std.specs.Option.{unwrap_or}
 use Rattle.orders.specs.Range.{in_range}
-use Rattle.orders.specs.declared.money.Cents.{Cents}
 use Rattle.orders.specs.declared.entry.Entry.{Entry}
 use Rattle.orders.specs.declared.entry.Entry.TheVariants.{Nothing, Bid, Ask}
 

@@ -1,7 +1,7 @@
 -- The bytes of an evening: kinds (1), members (2), the fund (8), accounts in cents (4 for each member), berths (1 for each
 -- member and kind), and then messages to the end. Where the bytes end early, kinds and members are read as 0 and the fund
 -- as the largest number, which are all out of range; of accounts and berths those that are there are read.
-use Rattle.std.specs.Prelude.{ℕ, zero, suc, ◌+◌, ◌*◌, cond, List, [], ◌∷◌, ◌++◌, length, take, drop, nat_le}
+use Rattle.std.specs.Prelude.{ℕ, zero, suc, ◌*◌, cond, List, [], ◌∷◌, ◌++◌, length, take, drop, nat_le}
 use Rattle.orders.specs.Words.{byte_at, word2, word4, word8}
 
 abbrev pub kinds_in : List ℕ → ℕ

@@ -1,7 +1,7 @@
 -- What is in lent memory. Entries stand kind by kind: member m's in kind k at k × M + m, of M members. Berths stand member
 -- by member: those of kind k at m × K + k, of K kinds. A taken message sets one entry, one number and one sum of bids, and
 -- nothing else.
-use Rattle.std.specs.Prelude.{◌≡◌, ℕ, ◌+◌, ◌*◌, ◌≤◌, Bool, cond, ◌||◌, List, length, Some, None, Ok, Err, Option, Result, nat_lt, slice_index, slice_set}
+use Rattle.std.specs.Prelude.{◌≡◌, ℕ, ◌+◌, ◌*◌, ◌≤◌, cond, ◌||◌, List, length, Some, None, Ok, Err, Option, Result, nat_lt, slice_index, slice_set}
 use Rattle.std.specs.Option.{unwrap_or}
 use Rattle.orders.specs.declared.books.Books.{Books}
 use Rattle.orders.specs.declared.entry.Entry.{Entry}

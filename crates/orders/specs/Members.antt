@@ -1,15 +1,13 @@
 -- What a row of messages is to each of its members. A message is of the member that its first two bytes name, if it has
 -- twelve bytes; any other is of nobody.
-use Rattle.std.specs.Prelude.{◌≡◌, ℕ, zero, suc, ◌+◌, ◌*◌, ◌<◌, ◌≤◌, Bool, true, cond, ◌&&◌, List, [], ◌∷◌, length, Ok, Err, Result, ◌==◌}
+use Rattle.std.specs.Prelude.{◌≡◌, ℕ, zero, suc, ◌+◌, ◌*◌, ◌<◌, ◌≤◌, Bool, cond, ◌&&◌, List, [], ◌∷◌, length, Ok, Err, Result, ◌==◌}
 use Rattle.orders.specs.declared.entry.Entry.{Entry}
 use Rattle.orders.specs.declared.entry.Entry.TheVariants.{Nothing, Bid, Ask}
 use Rattle.orders.specs.declared.message.Message.{Message}
-use Rattle.orders.specs.declared.money.Cents.{Cents}
 use Rattle.orders.specs.declared.order.Order.{Order}
 use Rattle.orders.specs.declared.refusal.Refusal.{Refusal}
 use Rattle.orders.specs.Entries.{bid_in}
 use Rattle.orders.specs.Taking.{Position}
-use Rattle.orders.specs.Lent.{Held, position}
 use Rattle.orders.specs.Words.{word2}
 
 abbrev pub is_of : ℕ → List ℕ → Bool

@@ -1,6 +1,6 @@
 -- An evening opens with 1 to 64 kinds, 1 to 2,000 members, accounts of at most 10^9 cents and a fund of at most 10^15 half
 -- cents, in memory that is long enough for them. Then there is no entry, nothing is bid, and no message has been taken.
-use Rattle.std.specs.Prelude.{ℕ, suc, ◌*◌, Bool, cond, ◌&&◌, List, [], ◌∷◌, ◌++◌, take, drop, replicate, Some, None, Option, nat_le, nat_lt}
+use Rattle.std.specs.Prelude.{ℕ, suc, cond, ◌&&◌, List, [], ◌∷◌, ◌++◌, take, drop, replicate, Some, None, Option, nat_le, nat_lt}
 use Rattle.orders.specs.declared.refusal.Part.{Part}
 use Rattle.orders.specs.declared.refusal.Refusal.{Refusal}
 use Rattle.orders.specs.declared.refusal.Refusal.TheVariants.{Kinds, Members, Account, Fund, Short}

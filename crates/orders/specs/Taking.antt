@@ -1,7 +1,7 @@
 -- What becomes of a message. All that decides is the message and the position of its own member: the number of its last
 -- taken message, its account, for each kind its entry and its berths, and what it bids in all kinds together, which is
 -- kept beside them, in half cents.
-use Rattle.std.specs.Prelude.{ℕ, ◌+◌, ◌-◌, ◌*◌, Bool, cond, Ok, Err, Result, ◌==◌, nat_le, nat_lt}
+use Rattle.std.specs.Prelude.{ℕ, ◌+◌, ◌-◌, ◌*◌, cond, Ok, Err, Result, ◌==◌, nat_le, nat_lt}
 use Rattle.orders.specs.declared.entry.Entry.{Entry}
 use Rattle.orders.specs.declared.entry.Entry.TheVariants.{Nothing, Bid, Ask}
 use Rattle.orders.specs.declared.message.Message.{Message}

@@ -1,4 +1,6 @@
 // Orders: what members hand in, when it is taken, and what it leaves.
+#![tactic(auto)]
+
 mod books;
 mod closed;
 mod entry;

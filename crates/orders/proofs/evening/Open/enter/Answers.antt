@@ -8,6 +8,6 @@ write-requires c =
     let K = c.args.self.now.kinds in
     let M = c.args.self.now.members in
     let w =
-    order_within K M (position K M (held c.args.books.now)) c.in-ok-message.message
-    c.in-ok-order.order (sym c.in-ok-order.ensures) in
+    order_within K M (position K M (held c.args.books.now)) c.in_ok-message.message
+    c.in_ok-order.order (sym c.in_ok-order.ensures) in
     record { fits = search rules; member = w.0; kind = w.1 }

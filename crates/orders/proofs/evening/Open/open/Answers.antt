@@ -1,4 +1,4 @@
-use Rattle.std.proofs.Common.{◌≡◌, ◌*◌, ◌≤◌, ◌++◌, length, drop, replicate, None, ap, ◌∙◌, arith, rules}
+use Rattle.std.proofs.Common.{◌≡◌, ◌*◌, ◌++◌, length, drop, replicate, None, ap, ◌∙◌, arith, rules}
 use Rattle.orders.specs.Lent.{held, Fits}
 use Rattle.orders.specs.Opening.{opening}
 use Rattle.orders.proofs.Openings.{opening_fits, length_emptied, opened_sound}

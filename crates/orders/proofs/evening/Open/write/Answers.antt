@@ -1,11 +1,11 @@
-use Rattle.std.proofs.Common.{◌+◌, ◌-◌, ◌<◌, ◌≤◌, length, set, unwrap_or, refl, ap, ◌∙◌, arith}
+use Rattle.std.proofs.Common.{◌+◌, ◌-◌, length, set, unwrap_or, refl, ap, ◌∙◌, arith}
 use borrow.Rule.Slice.PartMut.{put_mid, set_mid_at}
 use Rattle.orders.specs.Entries.{encoded}
 use Rattle.orders.proofs.Rows.{row_within, in_kind}
 use Rattle.orders.proofs.evening.Open.write.Goals as goal
 
-pub slice-bounds-place-end : goal.slice-bounds-place-end
-slice-bounds-place-end c =
+pub slice_bounds-place-end : goal.slice_bounds-place-end
+slice_bounds-place-end c =
     omega (
       arith,
       row_within c.args.order.kind.0 c.args.self.now.kinds c.args.self.now.members
