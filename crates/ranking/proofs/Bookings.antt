@@ -1,8 +1,8 @@
 -- What a book's methods leave, from what the functions on its slots leave.
-use Rattle.std.proofs.Common.{◌≡◌, ℕ, zero, suc, ◌+◌, ◌<◌, ◌≤◌, Bool, true, false, not, ◌&&◌, ◌||◌, eqb, ltb, List, [], ◌∷◌, map, length, get_or, set, replicate, Some, None, count_by, filter, Option, sym, refl, ap, ◌∙◌, subst, inl, inr, arith}
+use Rattle.std.proofs.Common.{◌≡◌, ℕ, zero, suc, ◌<◌, ◌≤◌, Bool, true, false, not, ◌&&◌, ◌||◌, eqb, ltb, List, [], ◌∷◌, map, length, set, replicate, Some, count_by, Option, sym, refl, ap, ◌∙◌, subst, inl, inr, arith}
 use Rattle.std.specs.Option.{option_map}
 use Rattle.std.specs.List.{slice_get, AllByRecursion as All}
-use Rattle.std.proofs.lemmas.List.{length-set, length-replicate, get_or-replicate, get_or_past}
+use Rattle.std.proofs.lemmas.List.{length-replicate, get_or-replicate, get_or_past}
 use Rattle.std.proofs.lemmas.Bool.{lt-ltb, le-ltb, or_from, or_left, or_right, and_left, and_right, and_from, cases_lt, cases_Bool, cond_both, cond-true, cond-false}
 use Rattle.orders.specs.declared.money.Cents.{Cents}
 use Rattle.ranking.specs.declared.node.Node.{Node}
@@ -11,14 +11,14 @@ use Rattle.ranking.specs.declared.ranked.Side.TheVariants.{Buyers, Sellers}
 use Rattle.ranking.specs.declared.ranked.Ranked.{Ranked}
 use Rattle.ranking.specs.declared.roots.Roots.{Roots}
 use Rattle.ranking.specs.Ranks.{before, own, insert}
-use Rattle.ranking.specs.Tree.{Tree, leaf, node, size, at, blank, in_order}
+use Rattle.ranking.specs.Tree.{leaf, node, size, at, blank, in_order}
 use Rattle.ranking.specs.Balance.{grown, shrunk, passed, picked}
 use Rattle.ranking.specs.Books.{Ordered, ranked_as}
 use Rattle.ranking.specs.Keys.{ranked_at, precedes, follows, ahead, Sorted}
 use Rattle.ranking.specs.Lists.{has, less}
 use Rattle.ranking.specs.Sides.{opposite, root_of, with_root}
-use Rattle.ranking.specs.Slots.{Rep, here, times, Parts, Room, Stands, Held, Became}
-use Rattle.ranking.specs.Sound.{side_tree, list_of, Kept, Sound, Fresh, Booked}
+use Rattle.ranking.specs.Slots.{here, times, Parts, Stands, Became}
+use Rattle.ranking.specs.Sound.{side_tree, list_of, Sound, Fresh, Booked}
 use Rattle.ranking.proofs.InOrder.{occurs, times_occurs}
 use Rattle.ranking.proofs.Counts.{count_rep}
 use Rattle.ranking.proofs.Precedence.{before_trans, map_count, map_nth, map_without}

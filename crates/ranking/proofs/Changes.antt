@@ -1,24 +1,23 @@
 -- One member more in a side's tree, or one less.
-use Rattle.std.proofs.Common.{◌≡◌, ℕ, zero, suc, ◌+◌, ◌<◌, ◌≤◌, Bool, true, false, cond, not, ◌||◌, eqb, ltb, List, [], ◌∷◌, map, length, get_or, set, filter, sym, refl, ap, ◌∙◌, subst, inl, inr, arith}
-use Rattle.std.proofs.lemmas.List.{length-set, get_or-set_same, get_or-set_other, length-map}
-use Rattle.std.proofs.lemmas.Bool.{cases_eq, cases_Bool, cond-true, cond-false, eq-eqb, ne_eqb, lt-ltb, le-ltb, cases_lt}
+use Rattle.std.proofs.Common.{◌≡◌, ℕ, ◌+◌, ◌<◌, ◌≤◌, Bool, true, not, ◌||◌, eqb, ltb, List, [], ◌∷◌, map, length, set, filter, sym, refl, ap, ◌∙◌, subst, inl, inr, arith}
+use Rattle.std.proofs.lemmas.List.{length-set, get_or-set_same, get_or-set_other}
+use Rattle.std.proofs.lemmas.Bool.{cases_eq, eq-eqb, ne_eqb, lt-ltb, le-ltb, cases_lt}
 use Rattle.orders.specs.declared.money.Cents.{Cents}
 use Rattle.ranking.specs.declared.node.Node.{Node}
 use Rattle.ranking.specs.declared.ranked.Side.{Side}
-use Rattle.ranking.specs.declared.ranked.Ranked.{Ranked}
 use Rattle.ranking.specs.declared.roots.Roots.{Roots}
 use Rattle.ranking.specs.Ranks.{before, own, insert}
-use Rattle.ranking.specs.Tree.{Tree, leaf, node, size, at, in_order}
-use Rattle.ranking.specs.Balance.{Balanced, grown, shrunk}
+use Rattle.ranking.specs.Tree.{leaf, node, size, at, in_order}
+use Rattle.ranking.specs.Balance.{grown, shrunk}
 use Rattle.ranking.specs.Keys.{ranked_at, precedes, ahead, Sorted}
-use Rattle.ranking.specs.Sides.{opposite, root_of, with_root}
-use Rattle.ranking.specs.Slots.{Rep, here, times, Parts, Stands, Became}
-use Rattle.ranking.specs.Sound.{tree_at, side_tree, Kept, Sound}
+use Rattle.ranking.specs.Sides.{opposite, root_of}
+use Rattle.ranking.specs.Slots.{Rep, here, times, Parts, Became}
+use Rattle.ranking.specs.Sound.{side_tree, Sound}
 use Rattle.ranking.specs.Lists.{has}
 use Rattle.ranking.proofs.Reps.{here_same, here_other, here_eq, rep_set, at_set_same, at_set_other, became_keeps, in_rep}
 use Rattle.ranking.proofs.InOrder.{occurs, times_occurs, size_length, times_grown, times_shrunk}
 use Rattle.ranking.proofs.Weights.{balanced_grown, balanced_shrunk}
-use Rattle.ranking.proofs.Rows.{placed, without, sorted_alike, sorted_kept, sorted_placed, in_order_grown, in_order_shrunk, without_none, length_without, occurs_without_same, occurs_without_other}
+use Rattle.ranking.proofs.Rows.{placed, without, sorted_alike, sorted_kept, sorted_placed, in_order_grown, in_order_shrunk, length_without, occurs_without_same, occurs_without_other}
 use Rattle.ranking.proofs.Precedence.{before_trans, before_asym, before_total, map_placed, map_without}
 use Rattle.ranking.proofs.Counts.{count_rep, size_le}
 use Rattle.ranking.proofs.Sounds.{Change, side_stands}

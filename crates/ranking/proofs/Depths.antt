@@ -1,5 +1,5 @@
 -- The depth of a balanced tree.
-use Rattle.std.proofs.Common.{◌≡◌, ℕ, zero, suc, ◌+◌, ◌*◌, ◌^◌, ◌<◌, ◌≤◌, max, sym, refl, ap, ◌∙◌, subst, inl, inr, mul_assoc, mul-le-mul_left, pow-suc, mul_left_comm, arith}
+use Rattle.std.proofs.Common.{◌≡◌, ℕ, suc, ◌+◌, ◌*◌, ◌^◌, ◌<◌, ◌≤◌, max, ap, ◌∙◌, subst, inl, inr, mul_assoc, mul-le-mul_left, pow-suc, mul_left_comm, arith}
 use Rattle.std.proofs.lemmas.Bool.{cases_lt}
 use Rattle.ranking.specs.Tree.{Tree, leaf, node, size, height}
 use Rattle.ranking.specs.Balance.{Balanced, weight}

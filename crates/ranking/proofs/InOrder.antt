@@ -1,13 +1,13 @@
 -- The in_order lists, the sizes and the members of the trees that the code makes.
-use Rattle.std.proofs.Common.{◌≡◌, ℕ, zero, suc, ◌+◌, ◌*◌, ◌<◌, ◌≤◌, Bool, true, false, cond, eqb, ltb, List, [], ◌∷◌, ◌++◌, length, sym, refl, ap, ◌∙◌, subst, arith}
-use Rattle.std.proofs.lemmas.Bool.{cond_both, ltb-true, ltb-false, eqb-true}
+use Rattle.std.proofs.Common.{◌≡◌, ℕ, ◌+◌, ◌*◌, ◌<◌, ◌≤◌, Bool, cond, eqb, ltb, List, [], ◌∷◌, ◌++◌, length, sym, refl, ap, ◌∙◌, arith}
+use Rattle.std.proofs.lemmas.Bool.{cond_both, ltb-true, ltb-false}
 use Rattle.std.proofs.lemmas.List.{append_assoc, append-nil, length-append}
 use Rattle.ranking.specs.declared.node.Hand.{Hand}
 use Rattle.ranking.specs.declared.node.Hand.TheVariants.{Left, Right}
 use Rattle.ranking.specs.Tree.{Tree, leaf, node, size, in_order}
 use Rattle.ranking.specs.Balance.{weight, fork, inner_of, outer_of, top_of, single, double, lifted, balanced, grown, first_of, rest_of, glued, shrunk}
 use Rattle.ranking.specs.Slots.{here, times}
-use Rattle.ranking.proofs.Reps.{size_fork, times_fork, here_same}
+use Rattle.ranking.proofs.Reps.{size_fork, times_fork}
 
 abbrev pub occurs : ℕ → List ℕ → ℕ
 occurs k [] = 0

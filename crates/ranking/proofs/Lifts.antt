@@ -1,11 +1,11 @@
 -- The steps of a rotation on the slots.
-use Rattle.std.proofs.Common.{◌≡◌, ℕ, ◌+◌, ◌*◌, ◌<◌, ◌≤◌, cond, ltb, List, length, sym, refl, ap, ◌∙◌, subst, arith}
+use Rattle.std.proofs.Common.{◌≡◌, ℕ, ◌+◌, ◌*◌, ◌<◌, ◌≤◌, ltb, List, length, sym, ap, ◌∙◌, subst, arith}
 use Rattle.ranking.specs.declared.node.Node.{Node}
 use Rattle.ranking.specs.declared.node.Hand.{Hand}
-use Rattle.ranking.specs.Tree.{Tree, leaf, node, size, at}
+use Rattle.ranking.specs.Tree.{Tree, node, at}
 use Rattle.std.proofs.lemmas.Bool.{cond-true, cond-false, lt-ltb, le-ltb}
 use Rattle.ranking.specs.Balance.{fork, inner_of, outer_of, top_of, inner_at, outer_at, single, double, lifted, balanced, weight}
-use Rattle.ranking.specs.Slots.{here, times, Rep, size_at, Parts, HeldParts, Trio, Became}
+use Rattle.ranking.specs.Slots.{Rep, size_at, Parts, HeldParts, Trio, Became}
 use Rattle.ranking.proofs.Reps.{became_keeps, open_rep, Opened, size_rep, size_fork, times_fork}
 
 -- what `join` ensures

@@ -1,11 +1,11 @@
 -- The steps of a way down a tree that changes nothing.
-use Rattle.std.proofs.Common.{◌≡◌, ℕ, ◌+◌, ◌-◌, ◌<◌, ◌≤◌, Bool, true, false, cond, eqb, ltb, List, length, Some, None, Option, sym, refl, ap, ◌∙◌, arith}
+use Rattle.std.proofs.Common.{◌≡◌, ℕ, ◌+◌, ◌-◌, ◌<◌, ◌≤◌, Bool, true, false, eqb, ltb, List, Some, None, ap, ◌∙◌, arith}
 use Rattle.std.proofs.lemmas.Bool.{cond_both, cond-true, cond-false, eq-eqb, ne_eqb, lt-ltb, le-ltb}
 use Rattle.ranking.specs.declared.node.Node.{Node}
-use Rattle.ranking.specs.declared.node.Hand.TheVariants.{Left, Right}
+use Rattle.ranking.specs.declared.node.Hand.TheVariants.{Right}
 use Rattle.ranking.specs.Tree.{Tree, leaf, node, size, at}
 use Rattle.ranking.specs.Balance.{left_of, right_of, passed, picked}
-use Rattle.ranking.specs.Slots.{Rep, size_at, Stands}
+use Rattle.ranking.specs.Slots.{size_at, Stands}
 use Rattle.ranking.proofs.Reps.{open_rep, Opened, size_rep}
 use Rattle.ranking.proofs.Walks.{none_rep}
 

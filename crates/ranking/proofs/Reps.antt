@@ -1,13 +1,13 @@
 -- Trees in slots: what a write leaves of them.
-use Rattle.std.proofs.Common.{◌≡◌, ℕ, zero, suc, ◌+◌, ◌*◌, ◌<◌, ◌≤◌, Bool, true, false, cond, eqb, ltb, List, [], ◌∷◌, ◌++◌, length, get_or, set, sym, refl, ap, ◌∙◌, subst, inl, inr, arith}
+use Rattle.std.proofs.Common.{◌≡◌, ℕ, ◌+◌, ◌<◌, ◌≤◌, cond, List, length, set, sym, refl, ap, ◌∙◌, subst, inl, inr, arith}
 use Rattle.std.proofs.lemmas.Bool.{eq-eqb, ne_eqb, cases_eq, cases_lt}
 use Rattle.std.proofs.lemmas.List.{length-set, get_or-set_same, get_or-set_other}
 use Rattle.ranking.specs.declared.node.Node.{Node}
 use Rattle.ranking.specs.declared.node.Hand.{Hand}
 use Rattle.ranking.specs.declared.node.Hand.TheVariants.{Left, Right}
 use Rattle.ranking.specs.Tree.{Tree, leaf, node, size, at, blank}
-use Rattle.ranking.specs.Balance.{node_of, fork, inner_of, outer_of, left_of, right_of, top_of, inner_at, outer_at}
-use Rattle.ranking.specs.Slots.{here, times, Rep, size_at, Slot, Parts, HeldParts, Trio, HeldTrio, Became}
+use Rattle.ranking.specs.Balance.{node_of, fork, inner_of, outer_of, top_of, inner_at, outer_at}
+use Rattle.ranking.specs.Slots.{here, times, Rep, size_at, Slot, Parts, Became}
 
 pub here_same : (m : ℕ) → here m m ≡ 1
 here_same m = ap (λ b. cond b 1 0) (eq-eqb m m refl)

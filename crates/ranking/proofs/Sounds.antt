@@ -1,8 +1,8 @@
 -- What always holds is kept by a change of one side's tree.
-use Rattle.std.proofs.Common.{◌≡◌, ℕ, zero, suc, ◌+◌, ◌*◌, ◌<◌, ◌≤◌, Bool, true, false, List, [], ◌∷◌, map, length, sym, refl, ap, ◌∙◌, subst, arith}
+use Rattle.std.proofs.Common.{◌≡◌, ℕ, ◌+◌, ◌≤◌, Bool, true, List, [], ◌∷◌, length, sym, refl, ap, ◌∙◌, subst, arith}
 use mathlib.Core.Bool.{Bool-set}
 use mathlib.Core.Logic.{∥∥₁_elim}
-use mathlib.Core.HLevel.{Π_prop, ×_prop}
+use mathlib.Core.HLevel.{×_prop}
 use native.Mathlib.Bridge.{le_prop}
 use native.Mathlib.Nat.{ℕ_set}
 use Rattle.std.specs.List.{AllByRecursion as All}
@@ -12,7 +12,7 @@ use Rattle.ranking.specs.declared.ranked.Side.{Side}
 use Rattle.ranking.specs.declared.ranked.Side.TheVariants.{Buyers, Sellers}
 use Rattle.ranking.specs.declared.roots.Roots.{Roots}
 use Rattle.ranking.specs.Tree.{Tree, leaf, node, size, at, in_order}
-use Rattle.ranking.specs.Balance.{Balanced, weight}
+use Rattle.ranking.specs.Balance.{Balanced}
 use Rattle.ranking.specs.Keys.{ahead, Sorted}
 use Rattle.ranking.specs.Sides.{opposite, root_of, with_root}
 use Rattle.ranking.specs.Slots.{Rep, times, Stands}

@@ -1,12 +1,12 @@
 -- The trees that the code makes are balanced, and a balanced tree is not deep.
-use Rattle.std.proofs.Common.{◌≡◌, ℕ, zero, suc, ◌+◌, ◌*◌, ◌^◌, ◌<◌, ◌≤◌, max, Bool, true, false, cond, eqb, ltb, sym, refl, ap, ◌∙◌, subst, arith}
+use Rattle.std.proofs.Common.{◌≡◌, ℕ, ◌+◌, ◌*◌, ◌<◌, ◌≤◌, Bool, cond, eqb, ltb, arith}
 use Rattle.std.proofs.lemmas.Bool.{cond_both, ltb-true, ltb-false}
 use Rattle.ranking.specs.declared.node.Hand.{Hand}
 use Rattle.ranking.specs.declared.node.Hand.TheVariants.{Left, Right}
-use Rattle.ranking.specs.Tree.{Tree, leaf, node, size, height}
+use Rattle.ranking.specs.Tree.{Tree, leaf, node, size}
 use Rattle.ranking.specs.Balance.{weight, Balanced, fork, inner_of, outer_of, top_of, single, double, lifted, balanced, grown, first_of, rest_of, glued, shrunk}
 use Rattle.ranking.proofs.Reps.{size_fork}
-use Rattle.ranking.proofs.InOrder.{size_grown, size_rest, size_glued, size_shrunk, size_balanced}
+use Rattle.ranking.proofs.InOrder.{size_grown, size_rest, size_shrunk}
 
 balanced_fork : (h : Hand) (t : Tree) (m : ℕ) (u : Tree) → weight t ≤ 3 * weight u → weight u ≤ 3 * weight t
     → Balanced t → Balanced u → Balanced (fork h t m u)

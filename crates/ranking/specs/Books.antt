@@ -1,5 +1,5 @@
 -- What a kind's order book holds: for each side the ranked list, from its tree.
-use Rattle.std.specs.Prelude.{◌≡◌, ℕ, ◌+◌, ◌*◌, ◌^◌, ◌≤◌, Bool, true, not, ◌&&◌, ◌||◌, List, [], ◌∷◌, map, vec_items, vec_len, nat_lt}
+use Rattle.std.specs.Prelude.{◌≡◌, ℕ, Bool, true, not, ◌&&◌, ◌||◌, List, [], ◌∷◌, map, vec_items, vec_len, nat_lt}
 use Rattle.std.specs.List.{AllByRecursion as All}
 use Rattle.orders.specs.declared.money.Cents.{Cents}
 use Rattle.ranking.specs.declared.book.Book.{Book}

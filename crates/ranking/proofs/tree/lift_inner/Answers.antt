@@ -2,8 +2,8 @@ use Rattle.ranking.proofs.Reps.{slot_rep}
 use Rattle.ranking.proofs.Lifts.{held, trio_first, trio_second, trio_third, trio_last}
 use Rattle.ranking.proofs.tree.lift_inner.Goals as goal
 
-pub slice-copy-out·top : goal.slice-copy-out·top
-slice-copy-out·top c =
+pub slice_copy_out-top : goal.slice_copy_out-top
+slice_copy_out-top c =
     slot_rep c.args.nodes.now c.args.inner c.requires.trees.middle c.requires.trees.trio.second c.requires.some
 
 pub join-requires : goal.join-requires

@@ -7,8 +7,8 @@ use Rattle.ranking.proofs.Bookings.{stands_at, counts_before}
 use Rattle.ranking.proofs.Sounds.{sound_from}
 use Rattle.ranking.proofs.book.Book.count_before.Goals as goal
 
-pub count-before-requires : goal.count-before-requires
-count-before-requires c =
+pub count_before-requires : goal.count_before-requires
+count_before-requires c =
     let h = sound_from c.args.self.now.sound in
     record {
       tree = record { tree = _; stands = stands_at h c.args.side c.deref.ensures.value c.of.ensures };
@@ -19,7 +19,7 @@ pub returns : goal.returns
 unfolding listed tree
 returns c =
     let h = sound_from c.args.self.now.sound in
-    c.count-before.ensures _ (stands_at h c.args.side c.deref.ensures.value c.of.ensures)
+    c.count_before.ensures _ (stands_at h c.args.side c.deref.ensures.value c.of.ensures)
     ∙ ap (λ ks. passed (follows c.args.side ks c.args.limit)
     (side_tree c.args.side (vec_items c.args.self.now.nodes) c.args.self.now.roots))
     c.deref-2.ensures.value

@@ -1,27 +1,26 @@
-use Rattle.std.proofs.Common.{◌≡◌, ℕ, ◌+◌, ◌*◌, ◌^◌, ◌≤◌, length, vec_items, sym, ap, ◌∙◌, subst, arith}
+use Rattle.std.proofs.Common.{◌≡◌, ℕ, ◌+◌, ◌*◌, ◌^◌, ◌≤◌, vec_items, sym, ◌∙◌, subst}
 use Rattle.std.proofs.lemmas.List.{length-map}
 use Rattle.ranking.specs.Books.{listed, tree}
 use Rattle.ranking.specs.Keys.{ranked_at}
-use Rattle.ranking.specs.Slots.{size_at}
-use Rattle.ranking.specs.Sound.{Sound, side_tree}
+use Rattle.ranking.specs.Sound.{side_tree}
 use Rattle.ranking.specs.Tree.{Tree, size, height, in_order}
 use Rattle.ranking.proofs.Bookings.{stands_at, ordered}
 use Rattle.ranking.proofs.Depths.{shallow}
 use Rattle.ranking.proofs.InOrder.{size_length}
 use Rattle.ranking.proofs.Reps.{slot_rep, size_rep}
-use Rattle.ranking.proofs.Sounds.{sound_from, side_stands}
+use Rattle.ranking.proofs.Sounds.{sound_from}
 use Rattle.ranking.proofs.book.Book.len.Goals as goal
 
-pub size-of-requires : goal.size-of-requires
-size-of-requires c =
+pub size_of-requires : goal.size_of-requires
+size_of-requires c =
     let t = stands_at (sound_from c.args.self.now.sound) c.args.side c.deref.ensures.value c.of.ensures in
     slot_rep c.deref.result.now c.of.result _ t.rep
 
-sized : (c : goal.After-size-of)
-    → c.size-of.result ≡ size (side_tree c.args.side (vec_items c.args.self.now.nodes) c.args.self.now.roots)
+sized : (c : goal.After-size_of)
+    → c.size_of.result ≡ size (side_tree c.args.side (vec_items c.args.self.now.nodes) c.args.self.now.roots)
 sized c =
     let t = stands_at (sound_from c.args.self.now.sound) c.args.side c.deref.ensures.value c.of.ensures in
-    c.size-of.ensures ∙ size_rep c.deref.result.now c.of.result _ t.rep
+    c.size_of.ensures ∙ size_rep c.deref.result.now c.of.result _ t.rep
 
 pub returns : goal.returns
 unfolding listed tree

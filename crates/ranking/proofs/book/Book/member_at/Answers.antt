@@ -1,12 +1,12 @@
-use Rattle.std.proofs.Common.{Some, vec_items, sym, ap, ◌∙◌, arith}
+use Rattle.std.proofs.Common.{Some, vec_items, ap, ◌∙◌, arith}
 use Rattle.std.proofs.lemmas.List.{get_or_read}
 use Rattle.ranking.specs.Books.{listed, tree, ranked_as}
 use Rattle.ranking.proofs.Bookings.{stands_at, picks_member, picked_within}
 use Rattle.ranking.proofs.Sounds.{sound_from}
 use Rattle.ranking.proofs.book.Book.member_at.Goals as goal
 
-pub member-at-requires : goal.member-at-requires
-member-at-requires c =
+pub member_at-requires : goal.member_at-requires
+member_at-requires c =
     record {
       tree = _;
       stands = stands_at (sound_from c.args.self.now.sound) c.args.side c.deref.ensures.value c.of.ensures;

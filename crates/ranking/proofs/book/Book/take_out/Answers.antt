@@ -1,4 +1,4 @@
-use Rattle.std.proofs.Common.{◌≡◌, ltb, length, vec_items, vec_len, sym, refl, ap, ◌∙◌, arith}
+use Rattle.std.proofs.Common.{ltb, length, sym, refl, ap, ◌∙◌, arith}
 use Rattle.std.proofs.lemmas.List.{with_items_is}
 use Rattle.ranking.specs.Books.{listed, tree, members}
 use Rattle.ranking.specs.Lists.{less}
@@ -16,26 +16,26 @@ returns-then-member-len c =
 pub leave-self-requires : goal.leave-self-requires
 leave-self-requires c =
     record {
-      sound = sound_as (sound_from c.args.self.now.sound) c.deref-mut.ensures.value c.deref.ensures.value;
-      within = omega (arith, c.if-member-len.false, c.len.ensures, c.deref-mut.ensures.len);
+      sound = sound_as (sound_from c.args.self.now.sound) c.deref_mut.ensures.value c.deref.ensures.value;
+      within = omega (arith, c.if-member-len.false, c.len.ensures, c.deref_mut.ensures.len);
     }
 
-pub invariant-of-self-2 : goal.invariant-of-self-2
-invariant-of-self-2 c = (
-  ∣ sound_as c.leave-self.ensures.sound
+pub invariant_of-self-2 : goal.invariant_of-self-2
+invariant_of-self-2 c = record {
+  sound =
+      ∣ sound_as c.leave-self.ensures.sound
       (with_items_is c.args.self.now.nodes c.leave-self.new.nodes
-      (c.leave-self.auto.nodes ∙ c.deref-mut.ensures.len))
-      (sym c.deref.ensures.value) ∣₁,
-  tt,
-)
+      (c.leave-self.auto.nodes ∙ c.deref_mut.ensures.len))
+      (sym c.deref.ensures.value) ∣₁;
+}
 
 pub returns : goal.returns
 unfolding members listed tree
 returns c =
     let b = booked_as (less c.args.member) c.leave-self.ensures
-    c.deref-mut.ensures.value c.deref.ensures.value
+    c.deref_mut.ensures.value c.deref.ensures.value
     (with_items_is c.args.self.now.nodes c.leave-self.new.nodes
-    (c.leave-self.auto.nodes ∙ c.deref-mut.ensures.len))
+    (c.leave-self.auto.nodes ∙ c.deref_mut.ensures.len))
     (sym c.deref.ensures.value) in
     record {
       answer = ap (λ n. ltb n c.len-before.result) (c.len-2.ensures.count ∙ ap length b.this)

@@ -1,4 +1,4 @@
-use Rattle.std.proofs.Common.{◌≡◌, vec_items, Option, sym, refl, ◌∙◌, subst, arith}
+use Rattle.std.proofs.Common.{vec_items, Option, sym, refl, ◌∙◌, subst, arith}
 use Rattle.ranking.specs.declared.book.Book.{Book}
 use Rattle.ranking.specs.Indexes.{book_of}
 use Rattle.ranking.proofs.AllKinds.{book_there, book_past, Tells}
