@@ -1,4 +1,6 @@
 // Clearing: from the two ranked lists of a kind to its outcome, and what the rule promises to the members.
+#![tactic(auto)]
+
 mod outcome;
 pub mod promises;
 mod rule;

@@ -12,7 +12,7 @@ by_rule buying selling o n e f = e ∙ ap (λ m. outcome_of m (cents_of buying) 
 
 pub returns : goal.returns
 returns c =
-    let e = by_rule c.args.buyers.now c.args.sellers.now _ _ c.settle.ensures c.count-pairs.ensures.pairs in
+    let e = by_rule c.args.buyers.now c.args.sellers.now _ _ c.settle.ensures c.count_pairs.ensures.pairs in
     record {
       rule = e;
       promised =
