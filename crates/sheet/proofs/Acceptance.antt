@@ -4,7 +4,7 @@ use Rattle.std.proofs.lemmas.List.{append_assoc, append-nil, length-append, leng
 use Rattle.std.proofs.lemmas.Bool.{cases_lt, cases_Bool, cond_both, cond-true, cond-false, eqb-true, eqb-false, eq-eqb, leb-true, leb-false, le-leb}
 use Rattle.std.proofs.lemmas.Bool.Decides.{nat_tests}
 use Rattle.orders.specs.declared.refusal.Refusal.{Refusal}
-use Rattle.orders.specs.declared.refusal.Refusal.TheVariants.{Kinds, Members, Short, NoEntry, Differs, Ends, GoesOn}
+use Rattle.orders.specs.declared.refusal.Refusal.TheVariants.{Kinds, Members, Short, Differs, GoesOn}
 use Rattle.orders.specs.declared.refusal.Part.TheVariants.{Entries}
 use Rattle.orders.specs.Entries.{decoded, kind_row}
 use Rattle.orders.specs.Refusals.{field_place}
@@ -16,8 +16,8 @@ use Rattle.clearing.specs.Kind.{pairs_in, outcome, bids, asks}
 use Rattle.clearing.proofs.FirstRanks.{only_the_first}
 use Rattle.sheet.specs.Sections.{past_kind}
 use Rattle.sheet.specs.Sheets.{Printed, printed, row_fields, kind_sheet, first_ranks, sheet_of_kind, sheet_from, sheet_of}
-use Rattle.sheet.specs.Statements.{Proper, AcceptsExactly, TurnsOff, GoesFurther, WrongField, NamedRight, ReadBack, from_kind, Tells, TellsRule}
-use Rattle.sheet.specs.Verdicts.{and_then, compared, step, through, through_kinds, ended, verdict, first_unknown, unless_unknown, check_answer}
+use Rattle.sheet.specs.Statements.{Proper, AcceptsExactly, TurnsOff, NamedRight, ReadBack, from_kind, Tells, TellsRule}
+use Rattle.sheet.specs.Verdicts.{and_then, compared, through, through_kinds, ended, verdict, first_unknown, unless_unknown, check_answer}
 use Rattle.sheet.proofs.Checks.{row_fits}
 use Rattle.sheet.proofs.Sections.{read_back}
 use Rattle.sheet.proofs.Judgements.{Told, WrongKind, told_kinds, no_field}

@@ -1,7 +1,6 @@
 -- A file of entries is read again as it was written.
-use Rattle.std.proofs.Common.{◌≡◌, ℕ, zero, suc, ◌+◌, ◌*◌, ◌/◌, ◌%◌, ◌<◌, ◌≤◌, true, cond, ◌&&◌, leb, List, [], ◌∷◌, ◌++◌, length, get_or, take, drop, None, sym, refl, ap, ◌∙◌, ap₂, add-one, arith}
+use Rattle.std.proofs.Common.{◌≡◌, ℕ, zero, suc, ◌+◌, ◌*◌, ◌/◌, ◌%◌, ◌<◌, ◌≤◌, List, [], ◌∷◌, ◌++◌, length, get_or, take, None, sym, refl, ap, ◌∙◌, ap₂, add-one, arith}
 use Rattle.std.specs.List.{flat_map, AllByRecursion as All}
-use Rattle.std.proofs.ByRecursion.{All-get_or}
 use Rattle.std.proofs.lemmas.List.{length-append, take_more, take_all}
 use Rattle.std.proofs.lemmas.Bool.{cond-true, le-leb}
 use Rattle.std.proofs.lemmas.Bool.Decides.{nat_tests}
@@ -9,8 +8,8 @@ use Rattle.orders.specs.Inputs.{members_in}
 use Rattle.orders.specs.Words.{word4}
 use Rattle.sheet.specs.Words.{bytes2, bytes4}
 use Rattle.sheet.specs.EntryFiles.{file_of, file_length, refused_file, codes_in}
-use Rattle.sheet.specs.Statements.{Proper, FileBack, FileReadAgain}
-use Rattle.sheet.proofs.Sections.{word2_bytes, word4_bytes, word4_past}
+use Rattle.sheet.specs.Statements.{FileReadAgain}
+use Rattle.sheet.proofs.Sections.{word4_bytes, word4_past}
 use Rattle.sheet.proofs.Written.{length_bytes4}
 
 length_codes : (codes : List ℕ) → length (flat_map bytes4 codes) ≡ 4 * length codes

@@ -1,6 +1,6 @@
 -- What was written of a kind is read again.
-use Rattle.std.proofs.Common.{◌≡◌, ℕ, zero, suc, ◌+◌, ◌-◌, ◌*◌, ◌/◌, ◌%◌, ◌<◌, ◌≤◌, Bool, true, cond, ◌&&◌, ltb, leb, List, [], ◌∷◌, ◌++◌, length, get_or, take, drop, Some, sym, refl, ap, ◌∙◌, subst, ap₂, inl, inr, add_assoc, mod-eq_of_lt, arith}
-use Rattle.std.specs.List.{AllByRecursion as All, slice_get}
+use Rattle.std.proofs.Common.{◌≡◌, ℕ, zero, suc, ◌+◌, ◌*◌, ◌/◌, ◌%◌, ◌<◌, ◌≤◌, Bool, true, ◌&&◌, List, [], ◌∷◌, ◌++◌, length, get_or, take, drop, Some, sym, ap, ◌∙◌, subst, ap₂, inl, inr, add_assoc, mod-eq_of_lt, arith}
+use Rattle.std.specs.List.{AllByRecursion as All}
 use Rattle.std.proofs.lemmas.Nat.{shr-shr, shr_below, div-add-mod'}
 use Rattle.std.proofs.ByRecursion.{All-take}
 use Rattle.std.proofs.lemmas.List.{append_assoc, length-append, length-map, length-take, get_or-append-add, take_at, drop_at}
@@ -8,7 +8,7 @@ use Rattle.std.proofs.lemmas.Option.{slice_get-get_or, slice_get_past}
 use Rattle.std.proofs.lemmas.Bool.{cases_lt, cond-true, cond-false, lt-ltb, le-ltb, le-leb}
 use Rattle.std.proofs.lemmas.Bool.Decides.{nat_tests}
 use Rattle.orders.specs.Entries.{entry_of, row_of}
-use Rattle.orders.specs.Words.{byte_at, word2, word4}
+use Rattle.orders.specs.Words.{word2, word4}
 use Rattle.ranking.specs.declared.ranked.Side.{Side}
 use Rattle.ranking.specs.declared.ranked.Ranked.{Ranked}
 use Rattle.ranking.specs.Ranks.{own, ranked}
@@ -17,12 +17,12 @@ use Rattle.clearing.specs.Rule.{trades_in, buyers_pay, sellers_get}
 use Rattle.clearing.specs.Kind.{pairs_in}
 use Rattle.clearing.proofs.Rows.{InRow, ranked_in_row}
 use Rattle.sheet.specs.Words.{bytes2, bytes4}
-use Rattle.sheet.specs.Sheets.{listed_bytes, row_bytes, kind_sheet, first_ranks}
+use Rattle.sheet.specs.Sheets.{listed_bytes, row_bytes, kind_sheet}
 use Rattle.sheet.specs.Writing.{fits}
-use Rattle.sheet.specs.Sections.{has_row, row_in, past_row, has_kind, buyers_in, sellers_in, past_kind, how_many_listed, listed_at, listed}
+use Rattle.sheet.specs.Sections.{has_row, row_in, past_row, how_many_listed, listed_at}
 use Rattle.sheet.specs.Statements.{ReadBack, Listable, KindReadAgain, RowReadAgain, FirstListable}
 use Rattle.sheet.proofs.Extents.{ranked_low}
-use Rattle.sheet.proofs.Written.{head_bytes, counted_bytes, kind_parts, length_head, length_counted, length_row, length_bytes2, length_listed}
+use Rattle.sheet.proofs.Written.{head_bytes, counted_bytes, kind_parts, length_row, length_listed}
 
 -- a number of two or four bytes is read again
 

@@ -1,6 +1,6 @@
 -- A file of entries: kinds (1 byte), members (2), and each kind's row, four bytes for each member. Where it ends before the
 -- members, they are read as 0, which is out of range.
-use Rattle.std.specs.Prelude.{◌≡◌, ℕ, zero, suc, ◌+◌, ◌*◌, ◌/◌, cond, ◌&&◌, ◌⊎◌, List, [], ◌∷◌, ◌++◌, length, drop, Some, None, Ok, Err, Option, Result, nat_le}
+use Rattle.std.specs.Prelude.{◌≡◌, ℕ, zero, suc, ◌+◌, ◌*◌, ◌/◌, cond, ◌&&◌, ◌⊎◌, List, [], ◌∷◌, ◌++◌, length, drop, Some, None, Err, Option, Result, nat_le}
 use Rattle.std.specs.List.{flat_map}
 use Rattle.orders.specs.declared.refusal.Part.TheVariants.{Entries}
 use Rattle.orders.specs.declared.refusal.Refusal.{Refusal}

@@ -1,7 +1,7 @@
 -- What a checker says of a sheet. It goes through the fields of the entries' own sheet, byte by byte, beside the bytes that it
 -- was given: at the first that differs it names the field, where the given bytes end before that it says so, and so it does
 -- where they go on after the last field. Kinds, members and entries have to be in range.
-use Rattle.std.specs.Prelude.{ℕ, zero, suc, ◌+◌, ◌*◌, Bool, cond, ◌&&◌, List, [], ◌∷◌, length, take, drop, is_some, Some, None, Ok, Err, Option, Result, ◌==◌, nat_le}
+use Rattle.std.specs.Prelude.{ℕ, zero, suc, ◌*◌, cond, ◌&&◌, List, [], ◌∷◌, length, take, drop, is_some, Some, None, Ok, Err, Option, Result, ◌==◌, nat_le}
 use Rattle.orders.specs.declared.refusal.Part.TheVariants.{Entries}
 use Rattle.orders.specs.declared.refusal.Refusal.{Refusal}
 use Rattle.orders.specs.declared.refusal.Refusal.TheVariants.{Kinds, Members, Short, NoEntry, Differs, Ends, GoesOn}

@@ -1,4 +1,6 @@
 // The published sheet: writing it, reading it, and checking it against the entries.
+#![tactic(auto)]
+
 mod checking;
 mod entries;
 mod expecting;

@@ -8,28 +8,28 @@ use Rattle.sheet.proofs.expecting.expect_row.Goals as goal
 
 pub loop-one-preserved : goal.loop-one-preserved
 loop-one-preserved c =
-    sym (row_ok c.args.sheet.now c.args.why c.args.row.now c.loop-one.one_Index _ c.loop-one.end c.loop-one-test.true
-    (sym c.expect-u16.ensures ∙ c.in-ok-end.was) (sym c.expect-u32.ensures ∙ c.in-ok-end-2.was))
+    sym (row_ok c.args.sheet.now c.args.why c.args.row.now c.loop-one.one-index _ c.loop-one.end c.loop-one-test.true
+    (sym c.expect_u16.ensures ∙ c.in_ok-end.was) (sym c.expect_u32.ensures ∙ c.in_ok-end-2.was))
     ∙ c.loop-one.invariant
 
-pub returns-in-err-end : goal.returns-in-err-end
-returns-in-err-end c =
-    let p = err_from_is_err_and c.from-residual.result c.from-residual.ensures.1 in
+pub returns-in_err-end : goal.returns-in_err-end
+returns-in_err-end c =
+    let p = err_from_is_err_and c.from_residual.result c.from_residual.ensures.1 in
     p.1 ∙ ap Err p.2
-    ∙ sym (row_err_member c.args.sheet.now c.args.why c.args.row.now c.loop-one.one_Index _ c.loop-one.end c.loop-one-test.true
-    (sym c.expect-u16.ensures ∙ c.in-err-end.was))
+    ∙ sym (row_err_member c.args.sheet.now c.args.why c.args.row.now c.loop-one.one-index _ c.loop-one.end c.loop-one-test.true
+    (sym c.expect_u16.ensures ∙ c.in_err-end.was))
     ∙ c.loop-one.invariant
 
-pub returns-in-err-end-2 : goal.returns-in-err-end-2
-returns-in-err-end-2 c =
-    let p = err_from_is_err_and c.from-residual-in-err-end-2.result c.from-residual-in-err-end-2.ensures.1 in
+pub returns-in_err-end-2 : goal.returns-in_err-end-2
+returns-in_err-end-2 c =
+    let p = err_from_is_err_and c.from_residual-in_err-end-2.result c.from_residual-in_err-end-2.ensures.1 in
     p.1 ∙ ap Err p.2
-    ∙ sym (row_err_cents c.args.sheet.now c.args.why c.args.row.now c.loop-one.one_Index _ c.loop-one.end c.loop-one-test.true
-    (sym c.expect-u16.ensures ∙ c.in-ok-end.was) (sym c.expect-u32.ensures ∙ c.in-err-end-2.was))
+    ∙ sym (row_err_cents c.args.sheet.now c.args.why c.args.row.now c.loop-one.one-index _ c.loop-one.end c.loop-one-test.true
+    (sym c.expect_u16.ensures ∙ c.in_ok-end.was) (sym c.expect_u32.ensures ∙ c.in_err-end-2.was))
     ∙ c.loop-one.invariant
 
 pub returns : goal.returns
 returns c =
     sym (step_none c.args.sheet.now c.args.why c.loop-one.end)
-    ∙ sym (at_drop_all (λ xs. step c.args.sheet.now c.args.why (row_bytes xs) c.loop-one.end) c.args.row.now c.loop-one.one_Index c.loop-one-test.false)
+    ∙ sym (at_drop_all (λ xs. step c.args.sheet.now c.args.why (row_bytes xs) c.loop-one.end) c.args.row.now c.loop-one.one-index c.loop-one-test.false)
     ∙ c.loop-one.invariant

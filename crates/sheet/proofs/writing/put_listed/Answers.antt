@@ -6,7 +6,7 @@ pub returns : goal.returns
 returns c =
     let row = c.args.row.now in
     let w =
-    wrote_then (wrote2 (length row) c.put-u16-end.ensures.end c.put-u16-end.ensures.bytes)
-    (wrote_row row c.put-row.ensures.end c.put-row.ensures.bytes)
+    wrote_then (wrote2 (length row) c.put_u16-end.ensures.end c.put_u16-end.ensures.bytes)
+    (wrote_row row c.put_row.ensures.end c.put_row.ensures.bytes)
     (omega (arith, c.requires.room, length_bytes2 (length row))) in
-    record { end = omega (arith, c.put-row.ensures.end, c.put-u16-end.ensures.end); bytes = w.leaves }
+    record { end = omega (arith, c.put_row.ensures.end, c.put_u16-end.ensures.end); bytes = w.leaves }

@@ -1,10 +1,10 @@
-use Rattle.std.proofs.Common.{◌≡◌, ℕ, ◌+◌, ◌*◌, ◌<◌, ◌≤◌, List, [], ◌∷◌, ◌++◌, length, get_or, take, sym, refl, ap, ◌∙◌, arith}
+use Rattle.std.proofs.Common.{◌≡◌, ℕ, ◌+◌, ◌*◌, ◌<◌, ◌≤◌, List, length, get_or, take, sym, refl, ap, ◌∙◌, arith}
 use Rattle.std.proofs.lemmas.List.{take_more, take_all, length-take}
 use Rattle.ranking.specs.declared.ranked.Ranked.{Ranked}
 use Rattle.sheet.specs.Words.{bytes2, bytes4}
-use Rattle.sheet.specs.Sheets.{listed_bytes, row_bytes}
+use Rattle.sheet.specs.Sheets.{row_bytes}
 use Rattle.sheet.specs.Writing.{written_at}
-use Rattle.sheet.proofs.Written.{Wrote, wrote_then, wrote2, wrote4, wrote_row, written_none, length_bytes2, length_listed, length_row, row_more}
+use Rattle.sheet.proofs.Written.{Wrote, wrote_then, wrote2, wrote4, wrote_row, written_none, length_bytes2, length_row, row_more}
 use Rattle.sheet.proofs.writing.put_row.Goals as goal
 
 pub loop-one-init : goal.loop-one-init
@@ -25,14 +25,14 @@ more {at = at} {e₀ = e₀} {old = old} {s₀ = s₀} row i d h room l e s a b 
 
 pub loop-one-preserved : goal.loop-one-preserved
 loop-one-preserved c =
-    let a = wrote2 _ c.put-u16-end.ensures.end c.put-u16-end.ensures.bytes in
-    let b = wrote4 _ c.put-u32-end.ensures.end c.put-u32-end.ensures.bytes in
-    let w = more c.args.row.now c.loop-one.one_Index _ (omega arith) c.requires c.loop-one.invariant.1 c.loop-one.invariant.0 c.loop-one.invariant.2 a b in
-    (omega (arith, c.put-u16-end.ensures.end, c.put-u32-end.ensures.end), omega arith, w.leaves)
+    let a = wrote2 _ c.put_u16-end.ensures.end c.put_u16-end.ensures.bytes in
+    let b = wrote4 _ c.put_u32-end.ensures.end c.put_u32-end.ensures.bytes in
+    let w = more c.args.row.now c.loop-one.one-index _ (omega arith) c.requires c.loop-one.invariant.1 c.loop-one.invariant.0 c.loop-one.invariant.2 a b in
+    (omega (arith, c.put_u16-end.ensures.end, c.put_u32-end.ensures.end), omega arith, w.leaves)
 
 pub returns : goal.returns
 returns c =
-    let same : c.loop-one.one_Index ≡ length c.args.row.now = omega arith in
+    let same : c.loop-one.one-index ≡ length c.args.row.now = omega arith in
     record {
       end = omega arith;
       bytes = c.loop-one.invariant.2 ∙ ap (λ xs. written_at c.args.at (row_bytes xs) c.args.sheet.now) (take_all _ c.args.row.now (omega arith));

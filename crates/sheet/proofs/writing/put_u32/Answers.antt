@@ -7,6 +7,6 @@ pub returns : goal.returns
 unfolding bytes4
 returns c =
     record {
-      end = c.put.ensures.end ∙ ap (λ bs. c.args.at + length bs) c.to-le-bytes.ensures;
-      bytes = c.put.ensures.bytes ∙ ap (λ bs. written_at c.args.at bs c.args.sheet.now) c.to-le-bytes.ensures;
+      end = c.put.ensures.end ∙ ap (λ bs. c.args.at + length bs) c.to_le_bytes.ensures;
+      bytes = c.put.ensures.bytes ∙ ap (λ bs. written_at c.args.at bs c.args.sheet.now) c.to_le_bytes.ensures;
     }

@@ -11,15 +11,15 @@ returns c =
     let sellers = c.args.sellers.now in
     let old = c.args.sheet.now in
     let test : writable (length old) c.args.at c.args.pairs o (length buyers) (length sellers) ≡ true =
-    sym c.is-writable.ensures ∙ c.if-not-is-writable.false in
+    sym c.is_writable.ensures ∙ c.if-not-is_writable.false in
     let room : c.args.at + kind_length (length buyers) (length sellers) ≤ length old =
     room_there (length old) c.args.at c.args.pairs o (length buyers) (length sellers) test in
     let head =
-    wrote_head c.args.pairs o _ _ _ c.trades-trades.ensures c.buyers-price-pay.ensures c.sellers-price-get.ensures
-    c.put-head-end.ensures.end c.put-head-end.ensures.bytes in
+    wrote_head c.args.pairs o _ _ _ c.trades-trades.ensures c.buyers_price-pay.ensures c.sellers_price-get.ensures
+    c.put_head-end.ensures.end c.put_head-end.ensures.bytes in
     let w =
     wrote_kind c.args.pairs o buyers sellers head
-    (wrote_counted buyers c.put-listed-end.ensures.end c.put-listed-end.ensures.bytes)
-    (wrote_counted sellers c.put-listed.ensures.end c.put-listed.ensures.bytes) (omega arith)
-    (omega (arith, c.put-head-end.ensures.end)) in
+    (wrote_counted buyers c.put_listed-end.ensures.end c.put_listed-end.ensures.bytes)
+    (wrote_counted sellers c.put_listed.ensures.end c.put_listed.ensures.bytes) (omega arith)
+    (omega (arith, c.put_head-end.ensures.end)) in
     record { end = ap Some w.ends ∙ sym (cond-true _ _ _ test); bytes = w.leaves ∙ sym (cond-true _ _ _ test) }

@@ -6,6 +6,6 @@ use Rattle.sheet.proofs.entries.EntriesFile.codes.Goals as goal
 pub loop-i-preserved : goal.loop-i-preserved
 loop-i-preserved c =
     let bytes = c.args.self.now.bytes.now in
-    pushed (c.word-u32.result ∷ []) c.loop-i.invariant c.in-ok-push.was c.push.ensures.items
-    ∙ ap (λ v. codes_in bytes c.loop-i.i ++ v ∷ []) c.word-u32.ensures
+    pushed (c.word_u32.result ∷ []) c.loop-i.invariant c.in_ok-push.was c.push.ensures.items
+    ∙ ap (λ v. codes_in bytes c.loop-i.i ++ v ∷ []) c.word_u32.ensures
     ∙ sym (ap (codes_in bytes) (add-one c.loop-i.i))

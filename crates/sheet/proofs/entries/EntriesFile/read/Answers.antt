@@ -18,7 +18,7 @@ pub returns : goal.returns
 returns c =
     record {
       refusal =
-          c.in-default.ensures
+          c.in_default.ensures
           ∙ ap₂ (λ k m. refused_file k m (length c.args.bytes.now)) c.kinds-kinds.ensures c.members-members.ensures;
       kinds = c.kinds-kinds.ensures;
       members = c.members-members.ensures;
