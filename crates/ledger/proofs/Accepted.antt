@@ -1,5 +1,5 @@
 -- Every entry that messages leave is one that a checker knows, so the sheet of every evening is accepted.
-use Rattle.std.proofs.Common.{◌≡◌, ℕ, ◌+◌, ◌*◌, ◌<◌, ◌≤◌, true, List, [], ◌∷◌, ◌++◌, length, get_or, take, drop, set, replicate, is_some, Some, None, Ok, Err, Option, Result, unwrap_or, sym, refl, ap, ◌∙◌, subst, ⊎_elim, arith}
+use Rattle.std.proofs.Common.{◌≡◌, ℕ, ◌+◌, ◌*◌, ◌<◌, ◌≤◌, true, List, [], ◌∷◌, length, get_or, take, drop, set, is_some, None, Ok, Err, Result, unwrap_or, sym, refl, ap, ◌∙◌, subst, ⊎_elim, arith}
 use Rattle.std.proofs.lemmas.List.{length-set, get_or-set_same, get_or-set_other, take_at}
 use Rattle.std.proofs.lemmas.Bool.{cases_eq}
 use Rattle.orders.specs.declared.entry.Entry.{Entry}
@@ -7,7 +7,7 @@ use Rattle.orders.specs.declared.entry.Entry.TheVariants.{Bid, Ask}
 use Rattle.orders.specs.declared.order.Order.{Order}
 use Rattle.orders.specs.declared.refusal.Refusal.{Refusal}
 use Rattle.orders.specs.Entries.{encoded, decoded}
-use Rattle.orders.specs.Lent.{Held, Fits, judged, entries_after, held_after, position}
+use Rattle.orders.specs.Lent.{Held, judged, entries_after, held_after}
 use Rattle.orders.specs.Messages.{fields}
 use Rattle.orders.specs.Opening.{opening}
 use Rattle.orders.specs.Running.{run}

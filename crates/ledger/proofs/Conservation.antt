@@ -1,13 +1,11 @@
 -- Sums over members and kinds: nothing is made or lost, and the order of kinds does not matter.
-use Rattle.std.proofs.Common.{◌≡◌, ℕ, zero, suc, ◌+◌, ◌-◌, ◌*◌, ◌<◌, ◌≤◌, Bool, true, false, cond, eqb, List, [], ◌∷◌, length, get_or, sum_by, count_by, sym, refl, ap, ◌∙◌, subst, add-mul, arith}
+use Rattle.std.proofs.Common.{◌≡◌, ℕ, ◌+◌, ◌*◌, ◌<◌, ◌≤◌, Bool, true, false, cond, eqb, List, [], ◌∷◌, get_or, sum_by, count_by, sym, refl, ap, ◌∙◌, subst, add-mul, arith}
 use mathlib.Core.Path.{fun_ext}
 use Rattle.std.specs.List.{range_with_len}
-use Rattle.std.specs.List.Sorted.{IsPermutation}
 use Rattle.std.proofs.lemmas.List.Sorted.{sum_by-IsPermutation}
 use Rattle.std.proofs.lemmas.List.Sums.{sum_by-cons}
 use Rattle.orders.specs.declared.entry.Entry.{Entry}
-use Rattle.orders.specs.declared.entry.Entry.TheVariants.{Nothing, Bid, Ask}
-use Rattle.orders.specs.declared.money.Cents.{Cents}
+use Rattle.orders.specs.declared.entry.Entry.TheVariants.{Nothing}
 use Rattle.orders.specs.Entries.{kind_row}
 use Rattle.orders.specs.Lent.{Held, Fits}
 use Rattle.orders.specs.Members.{Backed}
@@ -17,10 +15,10 @@ use Rattle.clearing.specs.Rule.{trades_in, fund_gets}
 use Rattle.clearing.specs.Kind.{bids, asks, outcome, buys, sells, pays, gets, members}
 use Rattle.clearing.proofs.AsMany.{as_many_buy, as_many_sell}
 use Rattle.clearing.proofs.Leftover.{fund_never_pays}
-use Rattle.ledger.specs.Closing.{paid, got, bought, sold, account_after, berths_after, fund_after, kinds, closed_account, closed_berths, closed_fund}
-use Rattle.ledger.specs.Statements.{all_members, KeptInKind, AnyOrder, OrderIsFree}
+use Rattle.ledger.specs.Closing.{paid, got, bought, sold, fund_after, kinds, closed_account, closed_berths, closed_fund}
+use Rattle.ledger.specs.Statements.{all_members, KeptInKind, OrderIsFree}
 use Rattle.ledger.proofs.Trading.{apart, moves}
-use Rattle.ledger.proofs.Sums.{sum_add, times, times_counting, payments, receipts, account_exact, berths_once}
+use Rattle.ledger.proofs.Sums.{sum_add, times_counting, payments, receipts, account_exact, berths_once}
 use Rattle.ledger.proofs.Worths.{sum_same_on, berths_exact, Holds}
 use Rattle.ledger.proofs.Truths.{row_entry, row_length, holds}
 
@@ -130,7 +128,7 @@ module _ (K M : ℕ) (h : Held) (fits : Fits K M h) (sound : AllSound K M h) (le
         sum_swap (λ k i. paid (rows k) i) (kinds K) (all_members M),
         sum_swap (λ k i. got (rows k) i) (kinds K) (all_members M),
         sum_same_on (λ k. sum_by (paid (rows k)) (all_members M)) (λ k. sum_by (got (rows k)) (all_members M) + takings k) 0 K
-            (λ k p q. (kept_in_kind k (omega arith)).paid-out),
+            (λ k p q. (kept_in_kind k (omega arith)).paid_out),
         sum_add (λ k. sum_by (got (rows k)) (all_members M)) takings (kinds K),
         fund_exact rows (kinds K) fund,
       )

@@ -1,8 +1,7 @@
 -- With no entry in memory an empty index is the index of the entries.
-use Rattle.std.proofs.Common.{◌≡◌, ℕ, zero, suc, ◌+◌, ◌-◌, ◌*◌, ◌<◌, ◌≤◌, true, cond, ltb, List, [], ◌∷◌, ◌++◌, map, length, take, drop, replicate, sym, refl, ap, ◌∙◌, subst, arith}
+use Rattle.std.proofs.Common.{◌≡◌, ℕ, zero, suc, ◌+◌, ◌-◌, ◌*◌, ◌<◌, ◌≤◌, cond, ltb, List, [], ◌++◌, length, take, replicate, sym, refl, ap, ◌∙◌, arith}
 use Rattle.std.proofs.lemmas.List.{drop-append-le, drop-replicate, take-append-le, take-replicate, length-replicate, length-map}
 use Rattle.std.proofs.lemmas.Bool.{lt-ltb}
-use Rattle.orders.specs.declared.entry.Entry.{Entry}
 use Rattle.orders.specs.Entries.{entry_of, row_of, kind_row}
 use Rattle.orders.proofs.Rows.{row_within}
 use Rattle.ranking.specs.declared.index.Index.{Index}
@@ -10,7 +9,7 @@ use Rattle.ranking.specs.declared.ranked.Side.{Side}
 use Rattle.ranking.specs.declared.ranked.Side.TheVariants.{Buyers, Sellers}
 use Rattle.ranking.specs.Indexes.{kind_list, kind_members}
 use Rattle.ranking.specs.Ranks.{own, ranked, ranked_from}
-use Rattle.ledger.specs.Indexed.{Lists, Indexed}
+use Rattle.ledger.specs.Indexed.{Indexed}
 
 ranked_none : (s : Side) (m n : ℕ) → ranked_from s own m (row_of (replicate n 0)) ≡ []
 unfolding ranked_from

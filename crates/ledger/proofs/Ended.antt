@@ -1,5 +1,5 @@
 -- From settled kinds to a closed evening.
-use Rattle.std.proofs.Common.{◌≡◌, ℕ, ◌+◌, ◌*◌, ◌≤◌, false, ◌||◌, ltb, List, length, None, sym, refl, ap, ◌∙◌, subst, arith}
+use Rattle.std.proofs.Common.{◌≡◌, ℕ, ◌+◌, ◌*◌, false, ◌||◌, ltb, List, length, None, sym, ap, ◌∙◌, subst}
 use Rattle.std.proofs.lemmas.Bool.{or_parts, ltb-false}
 use Rattle.orders.specs.Lent.{Held, lacking}
 use Rattle.orders.specs.Opening.{emptied}

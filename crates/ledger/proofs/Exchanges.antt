@@ -1,15 +1,14 @@
 -- The first ranks of a kind trade: a member is among them once if it trades, and else not; so trades leave each member's
 -- account and berths as its entry says.
-use Rattle.std.proofs.Common.{◌≡◌, ℕ, zero, suc, ◌+◌, ◌-◌, ◌*◌, ◌/◌, ◌^◌, ◌<◌, ◌≤◌, min, Bool, true, false, cond, eqb, ltb, List, [], ◌∷◌, length, get_or, take, Some, None, count_by, Option, sym, refl, ap, ◌∙◌, subst, ap₂, inl, inr, arith}
+use Rattle.std.proofs.Common.{◌≡◌, ℕ, zero, suc, ◌+◌, ◌-◌, ◌*◌, ◌/◌, ◌^◌, ◌<◌, ◌≤◌, min, Bool, true, false, cond, eqb, ltb, List, [], ◌∷◌, length, get_or, take, Some, None, count_by, Option, sym, refl, ap, ◌∙◌, ap₂, inl, inr, arith}
 use mathlib.Core.Path.{fun_ext}
 use Rattle.std.specs.List.{AllByRecursion as All}
-use Rattle.std.proofs.lemmas.Nat.{mul-add-lt, mod-mul-add, div-mul-add}
+use Rattle.std.proofs.lemmas.Nat.{div-mul-add}
 use Rattle.std.proofs.ByRecursion.{All-get_or, All-from_get_or, All-weaker, All-take}
 use Rattle.std.proofs.lemmas.List.{length-take-le}
 use Rattle.std.proofs.lemmas.List.Sums.{sum_by-cons}
 use Rattle.std.proofs.lemmas.Bool.{cases_eq, cases_lt, eq-eqb, ne_eqb, eqb-true, lt-ltb, le-ltb, cond-true, cond-false, both_ways}
 use Rattle.orders.specs.declared.entry.Entry.{Entry}
-use Rattle.orders.specs.declared.entry.Entry.TheVariants.{Nothing, Bid, Ask}
 use Rattle.orders.specs.declared.money.Cents.{Cents}
 use Rattle.ranking.specs.declared.ranked.Side.{Side}
 use Rattle.ranking.specs.declared.ranked.Side.TheVariants.{Buyers, Sellers}
@@ -23,7 +22,7 @@ use Rattle.clearing.proofs.Standing.{member_there, placed_at, rank_at}
 use Rattle.ledger.specs.Closing.{paid, got, bought, sold}
 use Rattle.ledger.specs.Trades.{trading, traded, account_cell, berth_cell, accounts_traded, berths_traded}
 use Rattle.ledger.proofs.Cells.{touches, untouched, at_buyer, at_seller}
-use Rattle.ledger.proofs.Trading.{apart, Moves, moves, not_both}
+use Rattle.ledger.proofs.Trading.{apart, not_both}
 
 none_counted : (p : Ranked → Bool) (xs : List Ranked) → All (λ x. p x ≡ false) xs → count_by p xs ≡ 0
 none_counted p [] h = refl

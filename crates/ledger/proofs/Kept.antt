@@ -1,5 +1,5 @@
 -- An order that sets its entry in memory and in the index leaves the index of the entries.
-use Rattle.std.proofs.Common.{◌≡◌, ℕ, ◌+◌, ◌-◌, ◌*◌, ◌<◌, ◌≤◌, ◌≢◌, List, ◌++◌, map, length, get_or, take, drop, set, Ok, unwrap_or, sym, refl, ap, ◌∙◌, subst, ⊎_elim, arith}
+use Rattle.std.proofs.Common.{◌≡◌, ℕ, ◌+◌, ◌-◌, ◌*◌, ◌<◌, ◌≤◌, ◌≢◌, List, length, get_or, take, drop, set, Ok, unwrap_or, sym, refl, ap, ◌∙◌, subst, ⊎_elim, arith}
 use Rattle.std.proofs.lemmas.Nat.{mul-add-lt}
 use Rattle.std.proofs.lemmas.List.{take-append-drop, set-append_left, take_at, length-set, length-take, length-drop, length-map, length-take-le, drop-set-add, drop-set-lt, take-set-le, map-set, get_or-map, get_or-take, get_or-drop}
 use Rattle.std.proofs.lemmas.Bool.{cases_eq, cases_lt}
@@ -10,7 +10,7 @@ use Rattle.orders.specs.Entries.{encoded, entry_of, row_of, kind_row}
 use Rattle.orders.specs.Lent.{Held, entry_at, position, judged, entries_after}
 use Rattle.orders.specs.Messages.{fields}
 use Rattle.orders.specs.Taking.{order_of, committed_with}
-use Rattle.orders.proofs.Positions.{Judged, judged_ok}
+use Rattle.orders.proofs.Positions.{judged_ok}
 use Rattle.orders.proofs.Rows.{row_within}
 use Rattle.orders.proofs.Rulings.{asks_for, coded}
 use Rattle.ranking.specs.declared.index.Index.{Index}

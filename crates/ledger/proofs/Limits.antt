@@ -1,5 +1,5 @@
 -- No sum of an evening's money comes near the end of its word.
-use Rattle.std.proofs.Common.{◌≡◌, ℕ, zero, suc, ◌+◌, ◌-◌, ◌*◌, ◌^◌, ◌<◌, ◌≤◌, Bool, true, false, cond, ◌&&◌, eqb, ltb, leb, List, [], ◌∷◌, length, get_or, Some, None, sum_by, count_by, unwrap_or, sym, refl, ap, ◌∙◌, subst, mul-le-mul, arith}
+use Rattle.std.proofs.Common.{◌≡◌, ℕ, ◌+◌, ◌-◌, ◌*◌, ◌<◌, ◌≤◌, Bool, true, false, cond, ◌&&◌, eqb, ltb, leb, List, length, get_or, Some, None, sum_by, unwrap_or, refl, ap, mul-le-mul, arith}
 use Rattle.std.specs.List.{range_with_len, AllByRecursion as All}
 use Rattle.std.proofs.ByRecursion.{All-weaker, All-map, All-from_get_or, sum_by_le}
 use Rattle.std.proofs.lemmas.List.FromFn.{length-range_with_len}
@@ -9,25 +9,24 @@ use Rattle.orders.specs.declared.entry.Entry.{Entry}
 use Rattle.orders.specs.declared.entry.Entry.TheVariants.{Nothing, Bid, Ask}
 use Rattle.orders.specs.declared.money.Cents.{Cents}
 use Rattle.orders.specs.Entries.{entry_of, kind_row}
-use Rattle.orders.specs.Lent.{Held, Fits}
-use Rattle.orders.specs.Statements.{AllSound}
+use Rattle.orders.specs.Lent.{Held}
 use Rattle.ranking.specs.declared.ranked.Side.{Side}
 use Rattle.ranking.specs.declared.ranked.Side.TheVariants.{Buyers, Sellers}
 use Rattle.ranking.specs.declared.ranked.Ranked.{Ranked}
 use Rattle.ranking.specs.Ranks.{own, on_side, ranked}
 use Rattle.clearing.specs.Rule.{cents_of, fund_gets}
-use Rattle.clearing.specs.Kind.{bids, asks, outcome, how_many, stands_on, sells, gets}
+use Rattle.clearing.specs.Kind.{bids, asks, outcome, stands_on, sells, gets}
 use Rattle.clearing.specs.Statements.{Within}
 use Rattle.clearing.proofs.Bounds.{within_bounds}
 use Rattle.clearing.proofs.Leftover.{all_but_one, least_left, no_two_left, left_gain_least}
 use Rattle.clearing.proofs.Pairing.{length_cents}
 use Rattle.clearing.proofs.Rows.{InRow, ranked_in_row}
 use Rattle.clearing.proofs.Standing.{length_ranked}
-use Rattle.ledger.specs.Closing.{paid, got, kinds, closed_account, closed_fund}
+use Rattle.ledger.specs.Closing.{got, kinds}
 use Rattle.ledger.specs.Statements.{Conserved, AllButOne}
 use Rattle.ledger.specs.Underway.{InBounds}
 use Rattle.ledger.specs.Worth.{cents_in}
-use Rattle.ledger.proofs.Sums.{payments, receipts, account_exact, sum_le}
+use Rattle.ledger.proofs.Sums.{payments, account_exact}
 use Rattle.ledger.proofs.Trading.{apart}
 use Rattle.ledger.proofs.Worths.{sum_le_on}
 use Rattle.ledger.proofs.Truths.{row_entry, row_length, holds}

@@ -1,6 +1,6 @@
 -- The members of the first ranks, one past the pairs, as they are written into lists: they give the kind's outcome, and the
 -- lists begin with those who trade.
-use Rattle.std.proofs.Common.{◌≡◌, ℕ, suc, ◌+◌, ◌-◌, ◌<◌, ◌≤◌, min, List, ◌++◌, map, length, take, drop, sym, refl, ap, ◌∙◌, subst, ap₂, inl, inr, arith}
+use Rattle.std.proofs.Common.{◌≡◌, ℕ, suc, ◌+◌, ◌-◌, ◌≤◌, min, List, length, take, drop, sym, ap, ◌∙◌, ap₂, inl, inr, arith}
 use Rattle.std.proofs.lemmas.List.{length-take, take_all, take-map, take_at, take-take, take-append-le}
 use Rattle.std.proofs.lemmas.List.Sums.{count_by-le-length}
 use Rattle.std.proofs.lemmas.Bool.{cases_lt}
@@ -11,7 +11,7 @@ use Rattle.ranking.specs.declared.ranked.Side.TheVariants.{Buyers, Sellers}
 use Rattle.ranking.specs.declared.ranked.Ranked.{Ranked}
 use Rattle.ranking.specs.Ranks.{own, ranked}
 use Rattle.clearing.specs.declared.outcome.Outcome.{Outcome}
-use Rattle.clearing.specs.Rule.{cents_of, pairs, cleared, trades_in}
+use Rattle.clearing.specs.Rule.{cents_of, cleared, trades_in}
 use Rattle.clearing.specs.Kind.{pairs_in, outcome, stands_on}
 use Rattle.clearing.proofs.AsMany.{trades_within}
 use Rattle.clearing.proofs.FirstRanks.{only_the_first}

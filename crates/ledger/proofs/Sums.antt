@@ -1,5 +1,5 @@
 -- One member over all kinds: its account and berths after closing, as sums over the kinds.
-use Rattle.std.proofs.Common.{◌≡◌, ℕ, zero, suc, ◌+◌, ◌-◌, ◌*◌, ◌<◌, ◌≤◌, Bool, true, false, cond, eqb, List, [], ◌∷◌, get_or, sum_by, count_by, sym, refl, ap, ◌∙◌, subst, inl, inr, add-one, arith}
+use Rattle.std.proofs.Common.{◌≡◌, ℕ, zero, suc, ◌+◌, ◌-◌, ◌*◌, ◌<◌, ◌≤◌, cond, eqb, List, [], ◌∷◌, get_or, sum_by, count_by, sym, refl, ap, ◌∙◌, inl, inr, arith}
 use Rattle.std.specs.List.{range_with_len}
 use Rattle.std.proofs.lemmas.List.Sums.{sum_by-cons}
 use Rattle.std.proofs.lemmas.Bool.{cases_eq, eq-eqb, ne_eqb, cond-true, cond-false}
@@ -7,7 +7,7 @@ use Rattle.orders.specs.declared.entry.Entry.{Entry}
 use Rattle.orders.specs.declared.entry.Entry.TheVariants.{Nothing}
 use Rattle.orders.specs.Entries.{bid_in}
 use Rattle.orders.specs.Members.{bids}
-use Rattle.ledger.specs.Closing.{paid, got, bought, sold, account_after, berths_after, fund_after, kinds}
+use Rattle.ledger.specs.Closing.{paid, got, bought, sold, account_after, berths_after, kinds}
 use Rattle.ledger.proofs.Trading.{moves}
 
 -- sums over a list of kinds

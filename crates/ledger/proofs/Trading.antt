@@ -1,7 +1,7 @@
 -- One member in one kind: what it pays and gets is by its entry there, and its true number serves it best.
 use Rattle.std.proofs.Common.{◌≡◌, ℕ, ◌+◌, ◌-◌, ◌*◌, ◌<◌, ◌≤◌, Bool, true, false, cond, ◌⊎◌, List, length, get_or, set, sym, refl, ap, ◌∙◌, subst, inl, inr, arith}
 use Rattle.std.proofs.lemmas.List.{set-get_or, get_or-set_same}
-use Rattle.std.proofs.lemmas.Bool.{both_ways, cases_lt}
+use Rattle.std.proofs.lemmas.Bool.{both_ways}
 use Rattle.orders.specs.declared.entry.Entry.{Entry}
 use Rattle.orders.specs.declared.entry.Entry.TheVariants.{Nothing, Bid, Ask}
 use Rattle.orders.specs.declared.money.Cents.{Cents}
@@ -9,9 +9,8 @@ use Rattle.orders.specs.Entries.{bid_in}
 use Rattle.orders.specs.Members.{Backed}
 use Rattle.ranking.specs.declared.ranked.Side.TheVariants.{Buyers, Sellers}
 use Rattle.ranking.specs.Ranks.{own, on_side}
-use Rattle.clearing.specs.Kind.{Apart, buys, sells, pays, gets, trades_with, with_bid, with_ask}
+use Rattle.clearing.specs.Kind.{Apart, buys, sells, pays, gets, trades_with}
 use Rattle.clearing.proofs.Theorems.{true_bids, true_asks, pays_at_most_bid, gets_at_least_ask}
-use Rattle.ledger.specs.Closing.{paid, got, bought, sold}
 use Rattle.ledger.specs.Worth.{sort_of, cents_in}
 
 pub apart : (row : List Entry) → Apart own row

@@ -1,6 +1,6 @@
 -- From what is in memory to what a member is worth: nobody loses, and of two evenings that differ in nothing but a member's
 -- cents the first leaves that member worth as much.
-use Rattle.std.proofs.Common.{◌≡◌, ℕ, zero, suc, ◌+◌, ◌-◌, ◌*◌, ◌<◌, ◌≤◌, List, [], ◌∷◌, ◌++◌, length, get_or, set, Ok, Err, Result, unwrap_or, sym, refl, ap, ◌∙◌, subst, ⊎_elim, arith}
+use Rattle.std.proofs.Common.{◌≡◌, ℕ, zero, suc, ◌+◌, ◌*◌, ◌<◌, ◌≤◌, List, [], ◌∷◌, ◌++◌, length, get_or, set, Ok, Err, Result, unwrap_or, sym, refl, ap, ◌∙◌, subst, ⊎_elim, arith}
 use Rattle.std.proofs.lemmas.List.{same_lists, length-set, get_or-set_same, get_or-set_other, get_or_default, set-get_or}
 use Rattle.std.proofs.lemmas.Bool.{cases_eq}
 use Rattle.orders.specs.declared.entry.Entry.{Entry}
@@ -17,14 +17,13 @@ use Rattle.orders.specs.Words.{byte_at, word2}
 use Rattle.orders.proofs.Alone.{alone_for}
 use Rattle.orders.proofs.Rows.{row_within}
 use Rattle.orders.proofs.Soundness.{sound_run}
-use Rattle.ledger.specs.Closing.{paid, got, bought, sold}
 use Rattle.ledger.specs.Worth.{sort_of, cents_in}
-use Rattle.ledger.specs.Statements.{worth_after, ButForCents, TrueNumbers, TrueEvenings, ButItsCents, NoWorse, TrueNumber, NoLoss}
+use Rattle.ledger.specs.Statements.{worth_after, ButForCents, TrueNumbers, TrueEvenings, NoWorse, TrueNumber, NoLoss}
 use Rattle.ledger.proofs.Kept.{length_row, get_or_row}
 use Rattle.ledger.proofs.OneNumber.{Alike, both_runs, others_write}
 use Rattle.ledger.proofs.Sums.{covered}
 use Rattle.ledger.proofs.Trading.{moves, BetterIn, true_number}
-use Rattle.ledger.proofs.Worths.{Holds, no_loss, true-best, true_in_kind, same_elsewhere}
+use Rattle.ledger.proofs.Worths.{Holds, no_loss, true_best, true_in_kind, same_elsewhere}
 
 bids_same : (f g : ℕ → Entry) (n : ℕ) → ((k : ℕ) → k < n → f k ≡ g k) → bids f n ≡ bids g n
 bids_same f g zero h = refl
@@ -119,13 +118,13 @@ module _ (K M : ℕ) where
     pub in_all_kinds : worth_after K M g entries_there i ≤ worth_after K M h entries_there i
     in_all_kinds =
         likewise (λ x. worth_after K M x entries_there i ≤ worth_after K M h entries_there i)
-        (true-best (rows h) K i entries_there (get_or h.accounts i 0) berths_there (holds h i l fh sh) (rows g) (entry_at M g.entries i) has better)
+        (true_best (rows h) K i entries_there (get_or h.accounts i 0) berths_there (holds h i l fh sh) (rows g) (entry_at M g.entries i) has better)
 
     pub in_one_kind : (k : ℕ) → k < K → ((j : ℕ) → j < K → (j ≡ k → ⊥) → entry_at M g.entries i j ≡ entries_there j) → NoWorse K M i k h g
     in_one_kind k m same =
         likewise (NoWorse K M i k h)
         (record {
-          worth-most =
+          worth_most =
               true_in_kind (rows h) K i entries_there (get_or h.accounts i 0) berths_there (holds h i l fh sh) (rows g) (entry_at M g.entries i)
               has better k m same_row;
           other_kinds = λ j q d.

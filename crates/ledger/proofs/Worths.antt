@@ -1,15 +1,14 @@
 -- What a member is worth after closing, by sums over the kinds: nobody loses at its own numbers, and true numbers are best.
-use Rattle.std.proofs.Common.{◌≡◌, ℕ, zero, suc, ◌+◌, ◌-◌, ◌*◌, ◌<◌, ◌≤◌, cond, List, [], ◌∷◌, length, get_or, set, sum_by, sym, refl, ap, ◌∙◌, subst, inl, inr, mul-add, arith}
+use Rattle.std.proofs.Common.{◌≡◌, ℕ, zero, suc, ◌+◌, ◌-◌, ◌*◌, ◌<◌, ◌≤◌, List, get_or, sum_by, sym, ap, ◌∙◌, subst, inl, inr, mul-add, arith}
 use Rattle.std.specs.List.{range_with_len}
 use Rattle.std.proofs.lemmas.List.Sums.{sum_by-cons}
 use Rattle.std.proofs.lemmas.Bool.{cases_eq}
 use Rattle.orders.specs.declared.entry.Entry.{Entry}
 use Rattle.orders.specs.declared.entry.Entry.TheVariants.{Nothing}
-use Rattle.orders.specs.Members.{bids, Backed}
 use Rattle.ledger.specs.Closing.{paid, got, bought, sold, account_after, berths_after, kinds}
-use Rattle.ledger.specs.Worth.{sort_of, cents_in, worth}
-use Rattle.ledger.proofs.Trading.{moves, BetterIn, true_number}
-use Rattle.ledger.proofs.Sums.{sum_add, payments, receipts, account_exact, covered, berths_once, times_counting}
+use Rattle.ledger.specs.Worth.{cents_in, worth}
+use Rattle.ledger.proofs.Trading.{moves, BetterIn}
+use Rattle.ledger.proofs.Sums.{sum_add, payments, account_exact, berths_once, times_counting}
 
 -- sums over the kinds from a on, term by term
 pub sum_le_on : (f g : ℕ → ℕ) (a n : ℕ) → ((k : ℕ) → a ≤ k → k < a + n → f k ≤ g k) → sum_by f (range_with_len a n) ≤ sum_by g (range_with_len a n)
@@ -76,10 +75,10 @@ module _ (rows : ℕ → List Entry) (K i : ℕ) (f : ℕ → Entry) (a : ℕ) (
       omega (arith, berths_once rows i k (kinds K) (b k) (times_counting k 0 K (omega arith) (omega arith)), has.backing k l)
 
   -- berths at any numbers v
-  pub berths-worth :
+  pub berths_worth :
       sum_by (λ k. 2 * v k * after k) (kinds K) + sum_by (λ k. 2 * v k * sold (rows k) i) (kinds K)
       ≡ sum_by (λ k. 2 * v k * b k) (kinds K) + sum_by (λ k. 2 * v k * bought (rows k) i) (kinds K)
-  berths-worth =
+  berths_worth =
       sym (sum_add (λ k. 2 * v k * after k) (λ k. 2 * v k * sold (rows k) i) (kinds K))
       ∙ sum_same_on (λ k. 2 * v k * after k + 2 * v k * sold (rows k) i) (λ k. 2 * v k * b k + 2 * v k * bought (rows k) i) 0 K
       (λ k l m. weigh (v k) (after k) (sold (rows k) i) (b k) (bought (rows k) i) (berths_exact k (omega arith)))
@@ -98,7 +97,7 @@ module _ (rows : ℕ → List Entry) (K i : ℕ) (f : ℕ → Entry) (a : ℕ) (
       omega (
         arith,
         account_exact rows i (kinds K) a has.cover,
-        berths-worth rows K i f a b v has,
+        berths_worth rows K i f a b v has,
         sum_le_on (λ k. paid (rows k) i + 2 * v k * sold (rows k) i) (λ k. got (rows k) i + 2 * v k * bought (rows k) i) 0 K in_kind,
         sum_add (λ k. paid (rows k) i) (λ k. 2 * v k * sold (rows k) i) (kinds K),
         sum_add (λ k. got (rows k) i) (λ k. 2 * v k * bought (rows k) i) (kinds K),
@@ -109,18 +108,18 @@ module _ (rows : ℕ → List Entry) (K i : ℕ) (f : ℕ → Entry) (a : ℕ) (
     abbrev after' : ℕ → ℕ
     after' k = berths_after rows' i k (kinds K) (b k)
 
-    pub true-best :
+    pub true_best :
         worth f (kinds K) (account_after rows' i (kinds K) a) (λ k. after' k)
         ≤ worth f (kinds K) (account_after rows i (kinds K) a) (λ k. berths_after rows i k (kinds K) (b k))
-    true-best =
+    true_best =
         let lhs : ℕ → ℕ = λ k. got (rows' k) i + paid (rows k) i + (2 * v k * bought (rows' k) i + 2 * v k * sold (rows k) i) in
         let rhs : ℕ → ℕ = λ k. got (rows k) i + paid (rows' k) i + (2 * v k * bought (rows k) i + 2 * v k * sold (rows' k) i) in
         omega (
           arith,
           account_exact rows i (kinds K) a has.cover,
           account_exact rows' i (kinds K) a has'.cover,
-          berths-worth rows K i f a b v has,
-          berths-worth rows' K i f' a b v has',
+          berths_worth rows K i f a b v has,
+          berths_worth rows' K i f' a b v has',
           sum_le_on lhs rhs 0 K (λ k l m. better k (omega arith)),
           sum_add (λ k. got (rows' k) i + paid (rows k) i) (λ k. 2 * v k * bought (rows' k) i + 2 * v k * sold (rows k) i) (kinds K),
           sum_add (λ k. got (rows' k) i) (λ k. paid (rows k) i) (kinds K),

@@ -1,6 +1,6 @@
 -- What an evening promises, from messages to accounts: the statements, and nothing else. Money is in half cents, so a
 -- number of cents is doubled. An evening of K kinds and M members is closed on what is then in memory.
-use Rattle.std.specs.Prelude.{◌≡◌, ℕ, ◌+◌, ◌-◌, ◌*◌, ◌^◌, ◌<◌, ◌≤◌, false, ◌⊎◌, List, ◌∷◌, ◌++◌, length, take, sum_by, ◌≢◌, slice_index, slice_index_or}
+use Rattle.std.specs.Prelude.{◌≡◌, ℕ, ◌+◌, ◌*◌, ◌^◌, ◌<◌, ◌≤◌, false, ◌⊎◌, List, ◌∷◌, ◌++◌, length, take, sum_by, ◌≢◌, slice_index, slice_index_or}
 use Rattle.std.specs.List.{range_with_len}
 use Rattle.std.specs.List.Sorted.{IsPermutation}
 use Rattle.orders.specs.declared.entry.Entry.{Entry}
@@ -10,7 +10,6 @@ use Rattle.orders.specs.Entries.{kind_row}
 use Rattle.orders.specs.Lent.{Held, Fits, entry_at, position}
 use Rattle.orders.specs.Members.{own as own-messages, own_answers, Sound}
 use Rattle.orders.specs.Running.{run, answers_to}
-use Rattle.orders.specs.Statements.{AllSound}
 use Rattle.orders.specs.Words.{byte_at, word2}
 use Rattle.ranking.specs.Ranks.{own}
 use Rattle.clearing.specs.Rule.{at_rank, trades_in, fund_gets}
@@ -57,7 +56,7 @@ pub record ButItsCents (m n : List ℕ) : Type 0 where
   pub all_else : take 8 n ≡ take 8 m
 
 pub record NoWorse (K M i k : ℕ) (h g : Held) : Type 0 where
-  pub worth-most :
+  pub worth_most :
       closed_account K M g i + 2 * cents_in (entry_at M h.entries i k) * closed_berths K M g i k
       ≤ closed_account K M h i + 2 * cents_in (entry_at M h.entries i k) * closed_berths K M h i k
   pub other_kinds : (j : ℕ) → j < K → (j ≢ k) → closed_berths K M g i j ≡ closed_berths K M h i j

@@ -1,4 +1,6 @@
 // The ledger: an evening with the index of its entries, kept while messages come.
+#![tactic(auto)]
+
 mod closing;
 mod first_ranks;
 mod holding;

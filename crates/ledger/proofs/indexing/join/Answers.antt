@@ -1,5 +1,4 @@
 use Rattle.std.proofs.Common.{refl}
-use Rattle.ranking.specs.Indexes.{free}
 use Rattle.ledger.proofs.Relisting.{joined, joined_nothing}
 use Rattle.ledger.proofs.indexing.join.Goals as goal
 
@@ -14,10 +13,10 @@ returns-in-Some c =
       size = c.put-free.ensures.size;
     }
 
-pub returns-in-default : goal.returns-in-default
-returns-in-default c =
+pub returns-in_default : goal.returns-in_default
+returns-in_default c =
     record {
-      row = λ row l. joined_nothing c.args.index.now c.args.kind c.args.member c.args.entry c.in-default.ensures row;
+      row = λ row l. joined_nothing c.args.index.now c.args.kind c.args.member c.args.entry c.in_default.ensures row;
       rest = λ k s d. refl;
       size = λ k. refl;
     }

@@ -6,17 +6,17 @@ pub returns-in-Some : goal.returns-in-Some
 returns-in-Some c =
     record {
       row =
-          left c.args.index.now c.take-out-there.new.self c.args.kind c.args.member c.args.entry
-          c.in-Some.side c.in-Some.-cents c.in-Some.ensures c.take-out-there.ensures.this
-          c.take-out-there.ensures.other (c.take-out-there.ensures.size c.args.kind);
-      rest = c.take-out-there.ensures.rest;
-      size = c.take-out-there.ensures.size;
+          left c.args.index.now c.take_out-there.new.self c.args.kind c.args.member c.args.entry
+          c.in-Some.side c.in-Some._cents c.in-Some.ensures c.take_out-there.ensures.this
+          c.take_out-there.ensures.other (c.take_out-there.ensures.size c.args.kind);
+      rest = c.take_out-there.ensures.rest;
+      size = c.take_out-there.ensures.size;
     }
 
-pub returns-in-default : goal.returns-in-default
-returns-in-default c =
+pub returns-in_default : goal.returns-in_default
+returns-in_default c =
     record {
-      row = λ row l. left_nothing c.args.index.now c.args.kind c.args.member c.args.entry c.in-default.ensures row;
+      row = λ row l. left_nothing c.args.index.now c.args.kind c.args.member c.args.entry c.in_default.ensures row;
       rest = λ k s d. refl;
       size = λ k. refl;
     }

@@ -1,4 +1,4 @@
-use Rattle.std.proofs.Common.{List, set, sym, ◌∙◌, subst}
+use Rattle.std.proofs.Common.{List, set, ◌∙◌, subst}
 use Rattle.std.proofs.lemmas.List.{set-set, get_or-set_same, length-set}
 use Rattle.orders.specs.declared.entry.Entry.{Entry}
 use Rattle.orders.specs.declared.entry.Entry.TheVariants.{Nothing}

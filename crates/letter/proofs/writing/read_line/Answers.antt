@@ -4,7 +4,7 @@ use Rattle.letter.proofs.writing.read_line.Goals as goal
 
 pub returns : goal.returns
 returns c =
-    let read = c.in-ok-section.ensures in
+    let read = c.in_ok-section.ensures in
     record {
       there = read.there;
       line =

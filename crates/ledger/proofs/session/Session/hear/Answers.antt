@@ -1,4 +1,4 @@
-use Rattle.std.proofs.Common.{ℕ, true, false, List, is_ok, sym, refl, ap, ◌∙◌, subst, rules}
+use Rattle.std.proofs.Common.{ℕ, true, false, List, is_ok, sym, refl, ap, subst, rules}
 use Rattle.orders.specs.Lent.{held, answer}
 use Rattle.orders.proofs.Dues.{taken_when_due}
 use Rattle.ledger.specs.Indexed.{Indexed}

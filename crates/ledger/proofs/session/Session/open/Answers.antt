@@ -1,4 +1,4 @@
-use Rattle.std.proofs.Common.{◌*◌, ◌≤◌, drop, sym, subst, arith}
+use Rattle.std.proofs.Common.{◌*◌, drop, sym, arith}
 use Rattle.ledger.proofs.Empty.{indexed_empty}
 use Rattle.ledger.proofs.session.Session.open.Goals as goal
 

@@ -4,24 +4,24 @@ use Rattle.ranking.specs.Indexes.{kind_list}
 use Rattle.ledger.proofs.Counting.{one_pair, no_pair, no_buyer, no_seller, no_more}
 use Rattle.ledger.proofs.session.Session.pairs.Goals as goal
 
-pub returns-in-default : goal.returns-in-default
-returns-in-default c =
+pub returns-in_default : goal.returns-in_default
+returns-in_default c =
     let bs = kind_list c.args.kind Buyers c.args.self.now.index in
     let ss = kind_list c.args.kind Sellers c.args.self.now.index in
     record {
       few = omega (arith, c.from.ensures);
-      pairs = c.from.ensures ∙ no_buyer bs ss c.loop-rank.rank _ c.loop-rank.invariant c.in-default.ensures;
+      pairs = c.from.ensures ∙ no_buyer bs ss c.loop-rank.rank _ c.loop-rank.invariant c.in_default.ensures;
     }
 
-pub returns-in-default-member-at : goal.returns-in-default-member-at
-returns-in-default-member-at c =
+pub returns-in_default-member_at : goal.returns-in_default-member_at
+returns-in_default-member_at c =
     let bs = kind_list c.args.kind Buyers c.args.self.now.index in
     let ss = kind_list c.args.kind Sellers c.args.self.now.index in
     record {
-      few = omega (arith, c.from-in-default-member-at.ensures);
+      few = omega (arith, c.from-in_default-member_at.ensures);
       pairs =
-          c.from-in-default-member-at.ensures
-          ∙ no_seller bs ss c.loop-rank.rank _ c.loop-rank.invariant c.in-default-member-at.ensures;
+          c.from-in_default-member_at.ensures
+          ∙ no_seller bs ss c.loop-rank.rank _ c.loop-rank.invariant c.in_default-member_at.ensures;
     }
 
 pub returns-then-bid-ask : goal.returns-then-bid-ask
@@ -32,16 +32,16 @@ returns-then-bid-ask c =
       few = omega (arith, c.from-then-bid-ask.ensures);
       pairs =
           c.from-then-bid-ask.ensures
-          ∙ no_pair bs ss c.loop-rank.rank _ c.loop-rank.invariant c.in-Some.buyer c.in-Some-member-at.seller
-          c.in-Some.ensures c.in-Some-member-at.ensures c.if-bid-ask.true;
+          ∙ no_pair bs ss c.loop-rank.rank _ c.loop-rank.invariant c.in-Some.buyer c.in-Some-member_at.seller
+          c.in-Some.ensures c.in-Some-member_at.ensures c.if-bid-ask.true;
     }
 
 pub loop-rank-preserved : goal.loop-rank-preserved
 loop-rank-preserved c =
     let bs = kind_list c.args.kind Buyers c.args.self.now.index in
     let ss = kind_list c.args.kind Sellers c.args.self.now.index in
-    one_pair bs ss c.loop-rank.rank _ c.loop-rank.invariant c.in-Some.buyer c.in-Some-member-at.seller c.in-Some.ensures
-    c.in-Some-member-at.ensures c.if-bid-ask.false
+    one_pair bs ss c.loop-rank.rank _ c.loop-rank.invariant c.in-Some.buyer c.in-Some-member_at.seller c.in-Some.ensures
+    c.in-Some-member_at.ensures c.if-bid-ask.false
 
 pub returns : goal.returns
 returns c =

@@ -1,4 +1,4 @@
-use Rattle.std.proofs.Common.{◌≡◌, ℕ, ◌+◌, ◌<◌, ◌≤◌, min, length, get_or, sym, refl, ap, ◌∙◌, subst, ap₂, arith}
+use Rattle.std.proofs.Common.{◌≡◌, ◌<◌, ◌≤◌, min, length, get_or, sym, refl, ◌∙◌, ap₂, arith}
 use Rattle.ranking.specs.declared.ranked.Ranked.{Ranked}
 use Rattle.clearing.specs.Rule.{trades_in, buyers_pay, sellers_get}
 use Rattle.ledger.specs.Trades.{changed, paying, earning, one_more, one_less, account_cell, berth_cell}
@@ -28,7 +28,7 @@ ranks-preserved c =
             entries = c.settle.ensures.entries;
             numbers = c.settle.ensures.numbers;
             committed = c.settle.ensures.committed;
-            accounts = as_many (paying c.buyers-price.result.0) (earning c.sellers-price.result.0) (get_or bs r nobody).member
+            accounts = as_many (paying c.buyers_price.result.0) (earning c.sellers_price.result.0) (get_or bs r nobody).member
                 (get_or ss r nobody).member c.ranks.books.accounts.now c.settle.new.books.accounts.now c.settle.ensures.accounts;
             berths = as_many one_more one_less (berth_cell c.args.self.now.open.kinds c.kinds.kind (get_or bs r nobody).member)
                 (berth_cell c.args.self.now.open.kinds c.kinds.kind (get_or ss r nobody).member) c.ranks.books.berths.now c.settle.new.books.berths.now c.settle.ensures.berths;
@@ -42,7 +42,7 @@ ranks-preserved c =
           (λ pay get.
           changed (earning get) (account_cell (get_or ss r nobody).member)
           (changed (paying pay) (account_cell (get_or bs r nobody).member) c.ranks.books.accounts.now))
-          c.buyers-price.ensures c.sellers-price.ensures)
+          c.buyers_price.ensures c.sellers_price.ensures)
           c.ranks.invariant.2,
       rank_settled one_more one_less (berth_cell c.args.self.now.open.kinds c.kinds.kind) (trades_in o) bs ss r
           c.ranks.books.berths.now c.settle.new.books.berths.now _ before there c.settle.ensures.berths c.ranks.invariant.3,
@@ -59,12 +59,12 @@ kinds-preserved-then-rank-trades c =
     c.args.books.now c.args.sheet.now c.args.buyers.now c.args.sellers.now
     c.kinds.kind c.kinds-test.true c.kinds.books c.kinds.fund c.kinds.end c.kinds.sheet c.kinds.buyers c.kinds.sellers
     c.kinds.invariant c.kinds.auto.buyers c.kinds.auto.sellers c.kinds.auto.sheet o bs ss c.ranks.books c.takings.result.0
-    c.saturating-add-fund.result c.publish-cleared.result.end c.publish-cleared.new.sheet c.publish-cleared.ensures.cleared
+    c.saturating_add-fund.result c.publish-cleared.result.end c.publish-cleared.new.sheet c.publish-cleared.ensures.cleared
     c.publish-cleared.ensures.sheet c.ranks.invariant.0
     (sym (ranks_done _ _ account_cell (trades_in o) bs ss c.ranks.rank c.ranks.books.accounts.now done) ∙ c.ranks.invariant.2)
     (sym (ranks_done _ _ (berth_cell c.args.self.now.open.kinds c.kinds.kind) (trades_in o) bs ss c.ranks.rank c.ranks.books.berths.now done)
     ∙ c.ranks.invariant.3)
-    c.takings.ensures c.saturating-add-fund.ensures
+    c.takings.ensures c.saturating_add-fund.ensures
 
 pub kinds-preserved : goal.kinds-preserved
 kinds-preserved c =
@@ -77,12 +77,12 @@ kinds-preserved c =
     c.args.books.now c.args.sheet.now c.args.buyers.now c.args.sellers.now
     c.kinds.kind c.kinds-test.true c.kinds.books c.kinds.fund c.kinds.end c.kinds.sheet c.kinds.buyers c.kinds.sellers
     c.kinds.invariant c.kinds.auto.buyers c.kinds.auto.sellers c.kinds.auto.sheet o bs ss c.ranks.books c.takings.result.0
-    c.saturating-add-fund.result c.publish-cleared.result.end c.publish-cleared.new.sheet c.publish-cleared.ensures.cleared
+    c.saturating_add-fund.result c.publish-cleared.result.end c.publish-cleared.new.sheet c.publish-cleared.ensures.cleared
     c.publish-cleared.ensures.sheet c.ranks.invariant.0
     (sym (ranks_done _ _ account_cell (trades_in o) bs ss c.ranks.rank c.ranks.books.accounts.now done) ∙ c.ranks.invariant.2)
     (sym (ranks_done _ _ (berth_cell c.args.self.now.open.kinds c.kinds.kind) (trades_in o) bs ss c.ranks.rank c.ranks.books.berths.now done)
     ∙ c.ranks.invariant.3)
-    c.takings.ensures c.saturating-add-fund.ensures
+    c.takings.ensures c.saturating_add-fund.ensures
 
 pub returns : goal.returns
 returns c =

@@ -6,17 +6,17 @@ pub returns-then-bytes-ne-BYTES : goal.returns-then-bytes-ne-BYTES
 unfolding line_in
 returns-then-bytes-ne-BYTES c = search rules
 
-pub returns-in-err-side : goal.returns-in-err-side
+pub returns-in_err-side : goal.returns-in_err-side
 unfolding line_in
-returns-in-err-side c = search rules
+returns-in_err-side c = search rules
 
-pub returns-in-err-price : goal.returns-in-err-price
+pub returns-in_err-price : goal.returns-in_err-price
 unfolding line_in
-returns-in-err-price c = search rules
+returns-in_err-price c = search rules
 
-pub returns-in-err-tie : goal.returns-in-err-tie
+pub returns-in_err-tie : goal.returns-in_err-tie
 unfolding line_in
-returns-in-err-tie c = search rules
+returns-in_err-tie c = search rules
 
 pub returns : goal.returns
 unfolding line_in
