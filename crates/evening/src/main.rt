@@ -105,7 +105,7 @@ fn run(rt: &HostRuntime, out: Option<&str>) -> Result<bool, Fault> {
         memory.sellers.as_mut_slice(),
     )?;
     let sheet = &memory.sheet.as_slice()[0..closing.sheet.min(memory.sheet.len())];
-    let mut report = Report::new(rt);
+    let mut report = Report::new(rt)?;
     report.answers(memory.answers.as_slice())?;
     report.kinds(input.kinds, sheet)?;
     report.fund(closing.evening.fund)?;

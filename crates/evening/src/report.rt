@@ -10,10 +10,10 @@ pub struct Report {
 }
 
 impl Report {
-    pub(crate) fn new(rt: &HostRuntime) -> Report {
-        Report {
-            out: BufWriter::new(rt.stdout()),
-        }
+    pub(crate) fn new(rt: &HostRuntime) -> io::Result<Report> {
+        Ok(Report {
+            out: BufWriter::new(rt.alloc(), rt.stdout())?,
+        })
     }
 
     // The refused messages, by their places in the input.

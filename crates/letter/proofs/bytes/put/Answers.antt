@@ -6,5 +6,5 @@ pub returns : goal.returns
 returns c =
     record {
       end = refl;
-      bytes = written_part c.args.at _ c.args.letter.now _ c.args.bytes.now c.copy-from-slice.ensures.after refl;
+      bytes = written_part c.args.at _ c.args.letter.now _ c.args.bytes.now c.copy_from_slice.ensures.after refl;
     }

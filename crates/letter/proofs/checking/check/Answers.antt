@@ -10,13 +10,13 @@ pub returns-then-letter-lt-HEAD : goal.returns-then-letter-lt-HEAD
 returns-then-letter-lt-HEAD c =
     let short : ◌≡◌ {A = Result Unit Refusal} (Err (Ends (length c.args.letter.now))) (checked c.args.letter.now) =
     sym (cond-true _ _ _ (lt-ltb (length c.args.letter.now) 3 c.if-letter-lt-HEAD.true)) in
-    let p = promises c.args.letter.now _ (λ i. omega (arith, c.type-inv.letter i)) short in
+    let p = promises c.args.letter.now _ (λ i. omega (arith, c.type_inv.letter i)) short in
     record { answer = p.told; accepted = p.exactly; evenings = p.evenings; relied = p.relied }
 
 pub returns : goal.returns
 returns c =
-    let told : c.check-lines.result ≡ checked c.args.letter.now =
-    c.check-lines.ensures ∙ ap (checked_from c.args.letter.now 0) c.from.ensures
+    let told : c.check_lines.result ≡ checked c.args.letter.now =
+    c.check_lines.ensures ∙ ap (checked_from c.args.letter.now 0) c.from.ensures
     ∙ sym (cond-false _ _ _ (le-ltb (length c.args.letter.now) 3 c.if-letter-lt-HEAD.false)) in
-    let p = promises c.args.letter.now _ (λ i. omega (arith, c.type-inv.letter i)) told in
+    let p = promises c.args.letter.now _ (λ i. omega (arith, c.type_inv.letter i)) told in
     record { answer = p.told; accepted = p.exactly; evenings = p.evenings; relied = p.relied }

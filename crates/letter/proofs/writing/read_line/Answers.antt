@@ -10,6 +10,6 @@ returns c =
       line =
           c.line.ensures
           ∙ told_from c.args.kind c.args.member c.args.entry _ _ _ _ _ _ c.args.bytes.now read.pairs read.trades
-          read.buyers-price read.sellers-price read.buyers read.sellers;
+          read.buyers_price read.sellers_price read.buyers read.sellers;
       rest = read.rest;
     }

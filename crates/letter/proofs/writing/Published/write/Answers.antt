@@ -7,11 +7,11 @@ pub returns : goal.returns
 returns c =
     let p = c.args.self in
     let ls = lines_told p.members p.entries.now c.args.member p.kinds 0 p.sheet.now in
-    let w = c.write-lines-lines.ensures in
+    let w = c.write_lines-lines.ensures in
     record {
-      end = length_letter c.args.member c.write-lines-lines.result ls w.count;
+      end = length_letter c.args.member c.write_lines-lines.result ls w.count;
       bytes =
-          wrote_letter c.args.member c.write-lines-lines.result ls c.to-le-bytes.result c.args.letter.now
-          c.write-lines-lines.new.letter c.put-head.new.letter w.count (omega (arith, w.few, c.requires.room))
-          c.to-le-bytes.ensures w.bytes c.put-head.ensures.bytes;
+          wrote_letter c.args.member c.write_lines-lines.result ls c.to_le_bytes.result c.args.letter.now
+          c.write_lines-lines.new.letter c.put-head.new.letter w.count (omega (arith, w.few, c.requires.room))
+          c.to_le_bytes.ensures w.bytes c.put-head.ensures.bytes;
     }

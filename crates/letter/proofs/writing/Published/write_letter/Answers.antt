@@ -4,11 +4,11 @@ use Rattle.letter.proofs.writing.Published.write_letter.Goals as goal
 pub returns : goal.returns
 returns c =
     let p = c.args.self in
-    let w = c.write-told.ensures in
+    let w = c.write_told.ensures in
     record {
       answer = w.answer;
       letter = w.letter;
       evening =
-          of_evening p.kinds p.members p.entries.now p.sheet.now c.args.member c.write-told.result
-          c.args.letter.now c.write-told.new.letter w.answer w.letter;
+          of_evening p.kinds p.members p.entries.now p.sheet.now c.args.member c.write_told.result
+          c.args.letter.now c.write_told.new.letter w.answer w.letter;
     }

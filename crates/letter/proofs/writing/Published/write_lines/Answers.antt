@@ -25,11 +25,11 @@ loop-kind-preserved c =
     (option_to_list c.in-Some.line) c.loop-kind-test.true said.there said.rest
     (said.line ∙ ap (λ e. kind_told k c.args.member e c.loop-kind.rest.now) c.entry.ensures) in
     let l =
-    leads_more _ _ _ (option_to_list c.in-Some.line) c.loop-kind.lines c.add-line-lines.result c.args.letter.now
-    c.loop-kind.letter c.add-line-lines.new.letter (c.loop-kind.invariant.0, c.loop-kind.invariant.1) more
-    c.add-line-lines.ensures.count c.add-line-lines.ensures.bytes
+    leads_more _ _ _ (option_to_list c.in-Some.line) c.loop-kind.lines c.add_line-lines.result c.args.letter.now
+    c.loop-kind.letter c.add_line-lines.new.letter (c.loop-kind.invariant.0, c.loop-kind.invariant.1) more
+    c.add_line-lines.ensures.count c.add_line-lines.ensures.bytes
     (omega (arith, c.loop-kind.invariant.2, c.requires.room, c.loop-kind.auto.letter)) in
-    (l.0, l.1, omega (arith, c.loop-kind.invariant.2, c.add-line-lines.ensures.count))
+    (l.0, l.1, omega (arith, c.loop-kind.invariant.2, c.add_line-lines.ensures.count))
 
 pub returns-after-loop-kind : goal.returns-after-loop-kind
 returns-after-loop-kind c =
@@ -40,11 +40,11 @@ returns-after-loop-kind c =
     c.loop-kind-test.false) in
     record { count = d.0; few = omega (arith, c.loop-kind.invariant.2, c.loop-kind.auto.kind-end); bytes = d.1 }
 
-pub returns-in-default : goal.returns-in-default
-returns-in-default c =
+pub returns-in_default : goal.returns-in_default
+returns-in_default c =
     let p = c.args.self in
     let d =
     leads_done _ _ c.loop-kind.lines c.args.letter.now c.loop-kind.letter (c.loop-kind.invariant.0, c.loop-kind.invariant.1)
     (lines_cut p.members p.entries.now c.args.member p.kinds c.loop-kind.kind c.loop-kind.rest.now
-    c.loop-kind-test.true c.in-default.ensures.there) in
+    c.loop-kind-test.true c.in_default.ensures.there) in
     record { count = d.0; few = omega (arith, c.loop-kind.invariant.2, c.loop-kind.auto.kind-end); bytes = d.1 }

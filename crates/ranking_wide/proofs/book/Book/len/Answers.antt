@@ -21,8 +21,8 @@ len-requires c =
       few = omega (arith, few_keys c.args.self.now.buyers c.args.self.now.sellers (vec_items c.args.self.now.entries) (sound_from c.args.self.now.sound) c.args.side, ap (λ (t : Tree). length (keys_of t)) c.tree.ensures);
     }
 
-pub overflow-cast-result : goal.overflow-cast-result
-overflow-cast-result c = omega (arith, c.len.ensures, few_keys c.args.self.now.buyers c.args.self.now.sellers (vec_items c.args.self.now.entries) (sound_from c.args.self.now.sound) c.args.side, ap (λ (t : Tree). length (keys_of t)) c.tree.ensures)
+pub overflow_cast-result : goal.overflow_cast-result
+overflow_cast-result c = omega (arith, c.len.ensures, few_keys c.args.self.now.buyers c.args.self.now.sellers (vec_items c.args.self.now.entries) (sound_from c.args.self.now.sound) c.args.side, ap (λ (t : Tree). length (keys_of t)) c.tree.ensures)
 
 pub returns : goal.returns
 unfolding listed tree counts members

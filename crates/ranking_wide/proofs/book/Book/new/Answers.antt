@@ -13,24 +13,23 @@ use Rattle.ranking_wide.proofs.Standing.{by_side, kept_new}
 use Rattle.ranking_wide.specs.Sound.{Kept}
 use Rattle.ranking_wide.proofs.book.Book.new.Goals as goal
 
-pub invariant-of-result : goal.invariant-of-result
-invariant-of-result c =
-    let e = c.in-ok-entries.ensures.items-if-clones-equal (λ y g. g) in
-    let b = c.in-ok-buyers.ensures in
-    let s = c.in-ok-sellers.ensures in (
+pub invariant_of-result : goal.invariant_of-result
+invariant_of-result c =
+    let e = c.in_ok-entries.ensures.items_if_clones_equal (λ y g. g) in
+    let b = c.in_ok-buyers.ensures in
+    let s = c.in_ok-sellers.ensures in
+    record { sound =
       ∣ record {
-        sides = by_side Buyers (λ x. Kept x (tree_of x c.in-ok-buyers.buyers c.in-ok-sellers.sellers) (vec_items c.in-ok-entries.entries))
-            (kept_new Buyers c.in-ok-buyers.buyers _ c.args.count e b.0 b.1 b.2 b.3)
-            (kept_new Sellers c.in-ok-sellers.sellers _ c.args.count e s.0 s.1 s.2 s.3);
+        sides = by_side Buyers (λ x. Kept x (tree_of x c.in_ok-buyers.buyers c.in_ok-sellers.sellers) (vec_items c.in_ok-entries.entries))
+            (kept_new Buyers c.in_ok-buyers.buyers _ c.args.count e b.0 b.1 b.2 b.3)
+            (kept_new Sellers c.in_ok-sellers.sellers _ c.args.count e s.0 s.1 s.2 s.3);
         few = omega (arith, ap length e, length-replicate c.args.count Nothing, c.ranges.count.fits);
-      } ∣₁,
-      tt,
-    )
+      } ∣₁ }
 
 pub returns : goal.returns
 unfolding members listed tree
 returns c = (
-  c.in-ok-entries.ensures.len,
-  by_side Buyers (λ x. map (ranked_of x) (keys_of (tree_of x c.in-ok-buyers.buyers c.in-ok-sellers.sellers)) ≡ [])
-      (ap (map (ranked_of Buyers)) c.in-ok-buyers.ensures.1) (ap (map (ranked_of Sellers)) c.in-ok-sellers.ensures.1),
+  c.in_ok-entries.ensures.len,
+  by_side Buyers (λ x. map (ranked_of x) (keys_of (tree_of x c.in_ok-buyers.buyers c.in_ok-sellers.sellers)) ≡ [])
+      (ap (map (ranked_of Buyers)) c.in_ok-buyers.ensures.1) (ap (map (ranked_of Sellers)) c.in_ok-sellers.ensures.1),
 )

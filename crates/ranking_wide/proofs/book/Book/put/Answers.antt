@@ -28,9 +28,9 @@ returns-then-slot-len c =
       size = refl;
     }
 
-pub returns-in-default : goal.returns-in-default
+pub returns-in_default : goal.returns-in_default
 unfolding members listed tree
-returns-in-default c =
+returns-in_default c =
     let p : c.args.member < length (vec_items c.args.self.now.entries) = omega (arith, c.if-slot-len.false, c.len.ensures, c.args.self.now.entries.ok.0) in
     let r = get_or_read (vec_items c.args.self.now.entries) c.args.member c.index.result.now p c.index.ensures Nothing in
     record {
@@ -39,35 +39,34 @@ returns-in-default c =
           (has_on Buyers c.args.self.now.buyers (vec_items c.args.self.now.entries) ((sound_from c.args.self.now.sound).sides Buyers) c.args.member)
           ∙ ap (λ x. is_on Buyers (get_or (vec_items c.args.self.now.entries) c.args.member Nothing) || x)
           (has_on Sellers c.args.self.now.sellers (vec_items c.args.self.now.entries) ((sound_from c.args.self.now.sound).sides Sellers) c.args.member)
-          ∙ on_one (get_or (vec_items c.args.self.now.entries) c.args.member Nothing) (λ g. c.in-default.not-Nothing (r ∙ g)));
+          ∙ on_one (get_or (vec_items c.args.self.now.entries) c.args.member Nothing) (λ g. c.in_default.not-Nothing (r ∙ g)));
       this = refl;
       other = refl;
       size = refl;
     }
 
-pub put-in-requires : goal.put-in-requires
-put-in-requires c =
+pub put_in-requires : goal.put_in-requires
+put_in-requires c =
     let p : c.args.member < length (vec_items c.args.self.now.entries) = omega (arith, c.if-slot-len.false, c.len.ensures, c.args.self.now.entries.ok.0) in
     let r = get_or_read (vec_items c.args.self.now.entries) c.args.member c.index.result.now p c.index.ensures Nothing in
-    let g = ready c.args.self.now.buyers c.args.self.now.sellers (vec_items c.args.self.now.entries) (sound_from c.args.self.now.sound) c.args.side c.args.member c.key-of-key.result
-    c.args.cents p c.key-of-key.ensures.back (sym r ∙ c.in-Nothing.is) in
+    let g = ready c.args.self.now.buyers c.args.self.now.sellers (vec_items c.args.self.now.entries) (sound_from c.args.self.now.sound) c.args.side c.args.member c.key_of-key.result
+    c.args.cents p c.key_of-key.ensures.back (sym r ∙ c.in-Nothing.is) in
     record {
       grown = ((sound_from c.args.self.now.sound).sides c.args.side).grown;
       room = g.0;
-      below = c.key-of-key.ensures.bound;
+      below = c.key_of-key.ensures.bound;
       new = g.1;
     }
 
-pub invariant-of-self : goal.invariant-of-self
-invariant-of-self c =
+pub invariant_of-self : goal.invariant_of-self
+invariant_of-self c =
     let p : c.args.member < length (vec_items c.args.self.now.entries) = omega (arith, c.if-slot-len.false, c.len.ensures, c.args.self.now.entries.ok.0) in
-    let r = get_or_read (vec_items c.args.self.now.entries) c.args.member c.index.result.now p c.index.ensures Nothing in (
-      ∣ subst (λ (e : Entry). Sound c.put-in.new.buyers c.put-in.new.sellers (set (vec_items c.args.self.now.entries) c.args.member e)) (sym c.entry-on.ensures)
-          (sound_put c.args.self.now.buyers c.args.self.now.sellers (vec_items c.args.self.now.entries) (sound_from c.args.self.now.sound) c.args.side c.args.member c.key-of-key.result
-          c.args.cents p c.key-of-key.ensures.back c.put-in.new.buyers c.put-in.new.sellers c.put-in.ensures.other
-          (sym r ∙ c.in-Nothing.is) c.put-in.ensures.this) ∣₁,
-      tt,
-    )
+    let r = get_or_read (vec_items c.args.self.now.entries) c.args.member c.index.result.now p c.index.ensures Nothing in
+    record { sound =
+      ∣ subst (λ (e : Entry). Sound c.put_in.new.buyers c.put_in.new.sellers (set (vec_items c.args.self.now.entries) c.args.member e)) (sym c.entry_on.ensures)
+          (sound_put c.args.self.now.buyers c.args.self.now.sellers (vec_items c.args.self.now.entries) (sound_from c.args.self.now.sound) c.args.side c.args.member c.key_of-key.result
+          c.args.cents p c.key_of-key.ensures.back c.put_in.new.buyers c.put_in.new.sellers c.put_in.ensures.other
+          (sym r ∙ c.in-Nothing.is) c.put_in.ensures.this) ∣₁ }
 
 pub returns : goal.returns
 unfolding members listed tree
@@ -80,9 +79,9 @@ returns c =
           (or_from _ _
           (has_on Buyers c.args.self.now.buyers (vec_items c.args.self.now.entries) ((sound_from c.args.self.now.sound).sides Buyers) c.args.member ∙ ap (is_on Buyers) z)
           (has_on Sellers c.args.self.now.sellers (vec_items c.args.self.now.entries) ((sound_from c.args.self.now.sound).sides Sellers) c.args.member ∙ ap (is_on Sellers) z));
-      this = listed_put c.args.self.now.buyers c.args.self.now.sellers (vec_items c.args.self.now.entries) (sound_from c.args.self.now.sound) c.args.side c.args.member c.key-of-key.result
-          c.args.cents p c.key-of-key.ensures.back c.put-in.new.buyers c.put-in.new.sellers c.put-in.ensures.other
-          c.key-of-key.ensures.bound c.put-in.ensures.this;
-      other = ap (λ (t : Tree). map (ranked_of (opposite c.args.side)) (keys_of t)) c.put-in.ensures.other;
+      this = listed_put c.args.self.now.buyers c.args.self.now.sellers (vec_items c.args.self.now.entries) (sound_from c.args.self.now.sound) c.args.side c.args.member c.key_of-key.result
+          c.args.cents p c.key_of-key.ensures.back c.put_in.new.buyers c.put_in.new.sellers c.put_in.ensures.other
+          c.key_of-key.ensures.bound c.put_in.ensures.this;
+      other = ap (λ (t : Tree). map (ranked_of (opposite c.args.side)) (keys_of t)) c.put_in.ensures.other;
       size = refl;
     }

@@ -16,4 +16,4 @@ unfolding book_of
 returns c =
     let e = book_there (vec_items c.args.self.now.books) c.len.result c.args.kind c.index.result.now
     (c.len.ensures ∙ c.args.self.now.books.ok.0) c.if-slot-len.false c.index.ensures in
-    c.count-before.ensures ∙ ap (λ o. count_by (λ x. before c.args.side own x c.args.limit) (book_list c.args.side o)) (sym e)
+    c.count_before.ensures ∙ ap (λ o. count_by (λ x. before c.args.side own x c.args.limit) (book_list c.args.side o)) (sym e)

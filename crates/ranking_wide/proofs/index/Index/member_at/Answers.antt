@@ -16,4 +16,4 @@ unfolding book_of
 returns c =
     let e = book_there (vec_items c.args.self.now.books) c.len.result c.args.kind c.index.result.now
     (c.len.ensures ∙ c.args.self.now.books.ok.0) c.if-slot-len.false c.index.ensures in
-    c.member-at.ensures ∙ ap (λ o. slice_get (book_list c.args.side o) c.args.rank) (sym e)
+    c.member_at.ensures ∙ ap (λ o. slice_get (book_list c.args.side o) c.args.rank) (sym e)

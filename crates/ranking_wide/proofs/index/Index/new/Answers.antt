@@ -8,10 +8,10 @@ use Rattle.ranking_wide.proofs.index.Index.new.Goals as goal
 
 pub loop-kind-preserved : goal.loop-kind-preserved
 loop-kind-preserved c = (
-  c.in-ok-push.ensures.len ∙ ap (λ n. n + 1) c.loop-kind.invariant.0,
-  subst (λ (bs : List Book). All (New c.args.members) bs) (sym c.in-ok-push.ensures.items)
-      (All-append (New c.args.members) (vec_items c.loop-kind.books) (c.in-ok-new.field-0 ∷ [])
-      c.loop-kind.invariant.1 (c.in-ok-new.ensures, tt)),
+  c.in_ok-push.ensures.len ∙ ap (λ n. n + 1) c.loop-kind.invariant.0,
+  subst (λ (bs : List Book). All (New c.args.members) bs) (sym c.in_ok-push.ensures.items)
+      (All-append (New c.args.members) (vec_items c.loop-kind.books) (c.in_ok-new.field-0 ∷ [])
+      c.loop-kind.invariant.1 (c.in_ok-new.ensures, tt)),
 )
 
 pub returns : goal.returns
@@ -23,5 +23,5 @@ returns c = (
   new_lists c.args.members (vec_items c.loop-kind.books) c.loop-kind.invariant.1,
 )
   where
-    whole : (c : goal.After-loop-kind) → c.loop-kind.-kind ≡ c.args.kinds
-    whole c = omega (arith, c.loop-kind-test.false, c.loop-kind.auto.-kind-end)
+    whole : (c : goal.After-loop-kind) → c.loop-kind._kind ≡ c.args.kinds
+    whole c = omega (arith, c.loop-kind-test.false, c.loop-kind.auto._kind-end)

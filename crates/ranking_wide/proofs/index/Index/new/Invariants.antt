@@ -7,5 +7,5 @@ use Rattle.ranking_wide.proofs.index.Index.new.Given as goal
 -- a book for each kind so far, with as many members, and empty
 abbrev pub invariant-loop-kind : goal.invariant-loop-kind
 invariant-loop-kind l =
-    (vec_len l.books ≡ l.-kind)
+    (vec_len l.books ≡ l._kind)
     × All (λ b. (members b ≡ l.members) × ((s : Side) → listed s b ≡ [])) (vec_items l.books)

@@ -30,19 +30,19 @@ returns c =
     let n = c.len.result in
     let k = c.args.kind in
     let en = c.len.ensures ∙ c.args.self.now.books.ok.0 in
-    let e = book_there bs n k c.index-mut.result.now en c.if-slot-len.false c.index-mut.ensures.value in
+    let e = book_there bs n k c.index_mut.result.now en c.if-slot-len.false c.index_mut.ensures.value in
     record {
       answer = c.put.ensures.answer
           ∙ ap (λ o. ltb c.args.member (book_members o)
           && not (has c.args.member (book_list Buyers o) || has c.args.member (book_list Sellers o))) (sym e);
-      this = list_this bs n k c.index-mut.result.now c.put.new.self en c.if-slot-len.false
-          c.index-mut.ensures.value c.args.side
+      this = list_this bs n k c.index_mut.result.now c.put.new.self en c.if-slot-len.false
+          c.index_mut.ensures.value c.args.side
           (λ xs. cond c.put.result (insert c.args.side own (ranked_as c.args.member c.args.cents) xs) xs)
           c.put.ensures.this;
-      other = list_this bs n k c.index-mut.result.now c.put.new.self en c.if-slot-len.false
-          c.index-mut.ensures.value (opposite c.args.side) (λ xs. xs) c.put.ensures.other;
-      rest = list_rest bs n k c.index-mut.result.now c.put.new.self en c.if-slot-len.false
-          c.index-mut.ensures.value;
-      size = members_rest bs n k c.index-mut.result.now c.put.new.self en c.if-slot-len.false
-          c.index-mut.ensures.value c.put.ensures.size;
+      other = list_this bs n k c.index_mut.result.now c.put.new.self en c.if-slot-len.false
+          c.index_mut.ensures.value (opposite c.args.side) (λ xs. xs) c.put.ensures.other;
+      rest = list_rest bs n k c.index_mut.result.now c.put.new.self en c.if-slot-len.false
+          c.index_mut.ensures.value;
+      size = members_rest bs n k c.index_mut.result.now c.put.new.self en c.if-slot-len.false
+          c.index_mut.ensures.value c.put.ensures.size;
     }

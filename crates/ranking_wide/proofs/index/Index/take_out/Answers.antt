@@ -24,16 +24,16 @@ returns c =
     let bs = vec_items c.args.self.now.books in
     let n = c.len.result in
     let k = c.args.kind in
-    let b = c.index-mut.result.now in
+    let b = c.index_mut.result.now in
     let en = c.len.ensures ∙ c.args.self.now.books.ok.0 in
-    let e = book_there bs n k b en c.if-slot-len.false c.index-mut.ensures.value in
+    let e = book_there bs n k b en c.if-slot-len.false c.index_mut.ensures.value in
     record {
-      answer = c.take-out.ensures.answer ∙ ap (λ o. has c.args.member (book_list c.args.side o)) (sym e);
-      this = list_this bs n k b c.take-out.new.self en c.if-slot-len.false c.index-mut.ensures.value
-          c.args.side (less c.args.member) c.take-out.ensures.this;
-      other = list_this bs n k b c.take-out.new.self en c.if-slot-len.false c.index-mut.ensures.value
-          (opposite c.args.side) (λ xs. xs) c.take-out.ensures.other;
-      rest = list_rest bs n k b c.take-out.new.self en c.if-slot-len.false c.index-mut.ensures.value;
-      size = members_rest bs n k b c.take-out.new.self en c.if-slot-len.false c.index-mut.ensures.value
-          c.take-out.ensures.size;
+      answer = c.take_out.ensures.answer ∙ ap (λ o. has c.args.member (book_list c.args.side o)) (sym e);
+      this = list_this bs n k b c.take_out.new.self en c.if-slot-len.false c.index_mut.ensures.value
+          c.args.side (less c.args.member) c.take_out.ensures.this;
+      other = list_this bs n k b c.take_out.new.self en c.if-slot-len.false c.index_mut.ensures.value
+          (opposite c.args.side) (λ xs. xs) c.take_out.ensures.other;
+      rest = list_rest bs n k b c.take_out.new.self en c.if-slot-len.false c.index_mut.ensures.value;
+      size = members_rest bs n k b c.take_out.new.self en c.if-slot-len.false c.index_mut.ensures.value
+          c.take_out.ensures.size;
     }

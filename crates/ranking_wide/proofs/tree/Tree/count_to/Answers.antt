@@ -11,8 +11,8 @@ more c =
     let p : c.loop-at.at < length ls = omega (arith, c.requires.end, c.loop-at-test.true) in
     omega (arith, c.loop-at.invariant, count_more ls (2 ^ 48) c.requires.grown.spans c.loop-at.at p c.index.result.now c.index.ensures)
 
-pub overflow-add-count : goal.overflow-add-count
-overflow-add-count c =
+pub overflow_add-count : goal.overflow_add-count
+overflow_add-count c =
     omega (arith, more c, count_front (leaves_of c.args.self.now) (c.loop-at.at + 1), c.requires.few)
 
 pub loop-at-preserved : goal.loop-at-preserved

@@ -16,8 +16,8 @@ few c =
           c.index-leaf.ensures,
     )
 
-pub offset-bounds-leaf-left : goal.offset-bounds-leaf-left
-offset-bounds-leaf-left c = omega (arith, few c)
+pub offset_bounds-leaf-left : goal.offset_bounds-leaf-left
+offset_bounds-leaf-left c = omega (arith, few c)
 
 pub bounds-leaf-left : goal.bounds-leaf-left
 bounds-leaf-left c =
