@@ -1,4 +1,6 @@
 // Checks a letter: whether each of its lines says what follows from its own numbers.
+#![tactic(auto)]
+
 use anyhow::anyhow;
 use letter::check;
 use std::{env, fs};

@@ -1,4 +1,6 @@
 // Checks a published sheet against the entries of its evening.
+#![tactic(auto)]
+
 use anyhow::anyhow;
 use sheet::check_file;
 use std::{env, fs};

@@ -1,3 +1,5 @@
+#![tactic(auto)]
+
 // Evenings of one kind, run through the clearing rule.
 #[cfg(test)]
 mod tests {

@@ -1,5 +1,7 @@
 // Holds an evening: reads it from standard input, takes its messages, closes it, and prints the result. Writes the files
 // from which everybody can check it, if asked.
+#![tactic(auto)]
+
 mod files;
 mod memory;
 mod report;

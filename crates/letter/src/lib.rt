@@ -1,4 +1,6 @@
 // Letters: what each member is told of its evening, and how it sees from that alone whether it traded by the rule.
+#![tactic(auto)]
+
 mod bytes;
 mod checking;
 mod following;

@@ -1,3 +1,5 @@
+#![tactic(auto)]
+
 // Letters: those of random evenings, and with one thing changed; lines that no evening gives; what the writer refuses.
 #[cfg(test)]
 mod evening;

@@ -1,3 +1,5 @@
+#![tactic(auto)]
+
 // Refusals that no input of the program brings about: lent memory that is too short, and a closed evening.
 #[cfg(test)]
 mod tests {

@@ -1,4 +1,6 @@
 // The index beside a slow scan of the row of entries.
+#![tactic(auto)]
+
 ghost use Rattle.std.specs.Prelude.{◌≡◌};
 ghost use Rattle.ranking.specs.Ranks.{on_side};
 

@@ -1,11 +1,11 @@
 -- Leaves one after another: what holds of the keys of all of them, and one leaf in place of another.
-use Rattle.std.proofs.Common.{◌≡◌, ℕ, zero, suc, ◌+◌, ◌<◌, ◌≤◌, Bool, true, false, cond, not, ltb, List, [], ◌∷◌, ◌++◌, map, length, get_or, take, drop, set, count_by, sym, refl, ap, ◌∙◌, subst, inl, inr, arith}
+use Rattle.std.proofs.Common.{◌≡◌, ℕ, suc, ◌+◌, ◌<◌, ◌≤◌, ltb, List, [], ◌∷◌, ◌++◌, map, length, get_or, take, drop, count_by, sym, refl, ap, ◌∙◌, subst, arith}
 use Rattle.std.specs.List.{AllByRecursion as All}
 use Rattle.std.proofs.lemmas.List.Elements.{filter-append}
 use Rattle.std.proofs.ByRecursion.{All-weaker, All-append}
-use Rattle.std.proofs.lemmas.List.{append_assoc, length-append, set-get_or, set_split}
+use Rattle.std.proofs.lemmas.List.{append_assoc, set-get_or, set_split}
 use Rattle.ranking_wide.specs.declared.leaf.Leaf.{Leaf}
-use Rattle.ranking_wide.specs.Leaves.{part, laid, placed, without, from, Ascending, Filled, Spans, blank, Found}
+use Rattle.ranking_wide.specs.Leaves.{part, laid, placed, without, from, Ascending, Filled, Spans, blank}
 use Rattle.ranking_wide.proofs.Rising.{placed_after, placed_before, without_none, ascending_append, count_by_append, count_all, count_none}
 
 pub laid_append : (fs bs : List Leaf) → laid (fs ++ bs) ≡ laid fs ++ laid bs

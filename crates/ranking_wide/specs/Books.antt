@@ -1,9 +1,8 @@
 -- What a kind's order book holds: for each side the ranked list, from its tree.
-use Rattle.std.specs.Prelude.{◌≡◌, ℕ, Bool, true, not, ◌&&◌, ◌||◌, List, [], ◌∷◌, map, length, vec_len, nat_lt}
+use Rattle.std.specs.Prelude.{◌≡◌, ℕ, Bool, true, not, ◌&&◌, ◌||◌, List, [], ◌∷◌, map, vec_len, nat_lt}
 use Rattle.std.specs.List.{AllByRecursion as All}
 use Rattle.orders.specs.declared.money.Cents.{Cents}
 use Rattle.ranking_wide.specs.declared.book.Book.{Book}
-use Rattle.ranking_wide.specs.declared.leaf.Leaf.{Leaf}
 use Rattle.ranking_wide.specs.declared.ranked.Side.{Side}
 use Rattle.ranking_wide.specs.declared.ranked.Side.TheVariants.{Buyers, Sellers}
 use Rattle.ranking_wide.specs.declared.ranked.Ranked.{Ranked}

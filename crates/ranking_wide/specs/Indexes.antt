@@ -1,5 +1,5 @@
 -- What the index of all kinds holds: for each kind and side the ranked list. Of a kind that there is not it holds nothing.
-use Rattle.std.specs.Prelude.{ℕ, Bool, false, not, ◌&&◌, ◌||◌, List, [], Some, None, vec_items, Option, nat_lt}
+use Rattle.std.specs.Prelude.{ℕ, Bool, not, ◌&&◌, ◌||◌, List, [], Some, None, vec_items, Option, nat_lt}
 use Rattle.std.specs.List.{slice_get}
 use Rattle.ranking_wide.specs.declared.book.Book.{Book}
 use Rattle.ranking_wide.specs.declared.index.Index.{Index}

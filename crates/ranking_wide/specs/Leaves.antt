@@ -1,6 +1,6 @@
 -- The leaves of a side's tree, and the keys that they hold. A leaf has its count of keys, in ascending order, none of them
 -- below the leaf's own low number, and each below the next leaf's.
-use Rattle.std.specs.Prelude.{◌≡◌, ℕ, suc, ◌+◌, ◌^◌, ◌<◌, ◌≤◌, min, max, Bool, cond, not, List, [], ◌∷◌, ◌++◌, length, take, drop, filter, ◌==◌, nat_lt, slice_index, slice_index_or}
+use Rattle.std.specs.Prelude.{◌≡◌, ℕ, suc, ◌<◌, ◌≤◌, min, max, cond, not, List, [], ◌∷◌, ◌++◌, length, take, drop, filter, ◌==◌, nat_lt, slice_index, slice_index_or}
 use Rattle.std.specs.List.{AllByRecursion as All}
 use Rattle.ranking_wide.specs.declared.leaf.Leaf.{Leaf}
 

@@ -1,15 +1,14 @@
 -- What always holds of a kind's book: the keys of a side's tree are those of the members that are on the side, each once,
 -- with the number that the member has, and the tree has place for the keys of all members.
-use Rattle.std.specs.Prelude.{◌≡◌, ℕ, suc, ◌+◌, ◌*◌, ◌/◌, ◌%◌, ◌<◌, ◌≤◌, Bool, cond, List, map, length, Some, None, count_by, Option, nat_eq, nat_lt, slice_index_or}
+use Rattle.std.specs.Prelude.{◌≡◌, ℕ, suc, ◌+◌, ◌*◌, ◌/◌, ◌%◌, ◌<◌, ◌≤◌, Bool, cond, List, length, Some, None, count_by, Option, nat_eq, nat_lt, slice_index_or}
 use Rattle.std.specs.List.{AllByRecursion as All}
 use Rattle.orders.specs.declared.entry.Entry.{Entry}
 use Rattle.orders.specs.declared.entry.Entry.TheVariants.{Nothing, Bid, Ask}
 use Rattle.orders.specs.declared.money.Cents.{Cents}
 use Rattle.ranking_wide.specs.declared.ranked.Side.{Side}
 use Rattle.ranking_wide.specs.declared.ranked.Side.TheVariants.{Buyers, Sellers}
-use Rattle.ranking_wide.specs.declared.ranked.Ranked.{Ranked}
 use Rattle.ranking_wide.specs.declared.tree.Tree.{Tree}
-use Rattle.ranking_wide.specs.Keys.{ranked_of, worth}
+use Rattle.ranking_wide.specs.Keys.{worth}
 use Rattle.ranking_wide.specs.Ranks.{on_side}
 use Rattle.ranking_wide.specs.Trees.{Grown, keys_of}
 

@@ -1,6 +1,5 @@
 -- What always holds of a side's tree, and what its keys are.
 use Rattle.std.specs.Prelude.{◌≡◌, ℕ, ◌+◌, ◌*◌, ◌^◌, ◌<◌, ◌≤◌, List, map, length, vec_items, vec_len, vec_capacity}
-use Rattle.std.specs.List.{AllByRecursion as All}
 use Rattle.ranking_wide.specs.declared.leaf.Leaf.{Leaf}
 use Rattle.ranking_wide.specs.declared.tree.Tree.{Tree}
 use Rattle.ranking_wide.specs.Leaves.{laid, from, Spans}

@@ -1,4 +1,6 @@
 // Ranking: the members of a side of a kind in the order of their ranks.
+#![tactic(auto)]
+
 mod book;
 mod index;
 mod key;

@@ -1,11 +1,10 @@
-use Rattle.std.proofs.Common.{◌≡◌, ℕ, ◌+◌, ◌*◌, ◌^◌, ◌<◌, ◌≤◌, ltb, List, map, length, get_or, vec_items, vec_len, count_by, sym, refl, ap, ◌∙◌, subst, arith}
-use Rattle.ranking_wide.specs.declared.ranked.Side.TheVariants.{Buyers, Sellers}
+use Rattle.std.proofs.Common.{ltb, map, length, vec_items, count_by, sym, ap, ◌∙◌, subst, arith}
 use Rattle.ranking_wide.specs.declared.ranked.Ranked.{Ranked}
 use Rattle.ranking_wide.specs.declared.tree.Tree.{Tree}
-use Rattle.ranking_wide.specs.Books.{counts, listed, members, tree}
+use Rattle.ranking_wide.specs.Books.{listed, tree}
 use Rattle.ranking_wide.specs.Keys.{ranked_of}
 use Rattle.ranking_wide.specs.Sound.{tree_of}
-use Rattle.ranking_wide.specs.Trees.{Grown, keys_of, leaves_of}
+use Rattle.ranking_wide.specs.Trees.{Grown, keys_of}
 use Rattle.ranking_wide.proofs.Sounds.{sound_from}
 use Rattle.std.proofs.lemmas.List.Sums.{count_by-le-length}
 use Rattle.ranking_wide.specs.Ranks.{before, own}

@@ -1,13 +1,10 @@
-use Rattle.std.proofs.Common.{◌≡◌, ℕ, ◌+◌, ◌*◌, ◌^◌, ◌<◌, ◌≤◌, List, map, length, get_or, vec_items, vec_len, sym, refl, ap, ◌∙◌, subst, arith}
-use Rattle.ranking_wide.specs.declared.ranked.Side.TheVariants.{Buyers, Sellers}
-use Rattle.ranking_wide.specs.declared.ranked.Ranked.{Ranked}
+use Rattle.std.proofs.Common.{ℕ, ◌+◌, ◌*◌, ◌^◌, ◌≤◌, length, vec_items, sym, ap, ◌∙◌, subst, arith}
 use Rattle.ranking_wide.specs.declared.tree.Tree.{Tree}
 use Rattle.ranking_wide.specs.Books.{counts, listed, members, tree, way}
 use Rattle.ranking_wide.specs.Keys.{ranked_of}
 use Rattle.ranking_wide.specs.Sound.{tree_of}
 use Rattle.ranking_wide.specs.Trees.{Grown, keys_of, leaves_of}
 use Rattle.ranking_wide.proofs.Sounds.{sound_from}
-use Rattle.std.specs.List.{AllByRecursion as All}
 use Rattle.std.proofs.lemmas.List.{length-map}
 use Rattle.ranking_wide.proofs.Ordering.{ordered_keys}
 use Rattle.ranking_wide.proofs.Spans.{few_each, spans_rise}

@@ -1,11 +1,9 @@
-use Rattle.std.proofs.Common.{◌≡◌, ℕ, ◌+◌, ◌*◌, ◌^◌, ◌<◌, ◌≤◌, List, map, length, get_or, Some, None, vec_items, vec_len, Option, sym, refl, ap, ◌∙◌, subst, arith}
-use Rattle.ranking_wide.specs.declared.ranked.Side.TheVariants.{Buyers, Sellers}
-use Rattle.ranking_wide.specs.declared.ranked.Ranked.{Ranked}
+use Rattle.std.proofs.Common.{Some, vec_items, sym, ap, ◌∙◌, subst}
 use Rattle.ranking_wide.specs.declared.tree.Tree.{Tree}
-use Rattle.ranking_wide.specs.Books.{counts, listed, members, tree}
+use Rattle.ranking_wide.specs.Books.{listed, tree}
 use Rattle.ranking_wide.specs.Keys.{ranked_of}
 use Rattle.ranking_wide.specs.Sound.{tree_of}
-use Rattle.ranking_wide.specs.Trees.{Grown, keys_of, leaves_of}
+use Rattle.ranking_wide.specs.Trees.{Grown, keys_of}
 use Rattle.ranking_wide.proofs.Sounds.{sound_from}
 use Rattle.std.specs.Option.{option_map}
 use Rattle.std.specs.List.{slice_get}

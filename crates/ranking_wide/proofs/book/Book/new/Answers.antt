@@ -1,12 +1,9 @@
-use Rattle.std.proofs.Common.{◌≡◌, ℕ, ◌+◌, ◌*◌, ◌^◌, ◌<◌, ◌≤◌, List, [], map, length, get_or, set, replicate, vec_items, vec_len, sym, refl, ap, ◌∙◌, subst, arith}
+use Rattle.std.proofs.Common.{◌≡◌, [], map, length, vec_items, ap, arith}
 use Rattle.ranking_wide.specs.declared.ranked.Side.TheVariants.{Buyers, Sellers}
-use Rattle.ranking_wide.specs.declared.ranked.Ranked.{Ranked}
-use Rattle.ranking_wide.specs.declared.tree.Tree.{Tree}
-use Rattle.ranking_wide.specs.Books.{counts, listed, members, tree}
+use Rattle.ranking_wide.specs.Books.{listed, members, tree}
 use Rattle.ranking_wide.specs.Keys.{ranked_of}
 use Rattle.ranking_wide.specs.Sound.{tree_of}
-use Rattle.ranking_wide.specs.Trees.{Grown, keys_of, leaves_of}
-use Rattle.ranking_wide.proofs.Sounds.{sound_from}
+use Rattle.ranking_wide.specs.Trees.{keys_of}
 use Rattle.orders.specs.declared.entry.Entry.TheVariants.{Nothing}
 use Rattle.std.proofs.lemmas.List.{length-replicate}
 use Rattle.ranking_wide.proofs.Standing.{by_side, kept_new}
@@ -18,13 +15,15 @@ invariant_of-result c =
     let e = c.in_ok-entries.ensures.items_if_clones_equal (λ y g. g) in
     let b = c.in_ok-buyers.ensures in
     let s = c.in_ok-sellers.ensures in
-    record { sound =
-      ∣ record {
-        sides = by_side Buyers (λ x. Kept x (tree_of x c.in_ok-buyers.buyers c.in_ok-sellers.sellers) (vec_items c.in_ok-entries.entries))
-            (kept_new Buyers c.in_ok-buyers.buyers _ c.args.count e b.0 b.1 b.2 b.3)
-            (kept_new Sellers c.in_ok-sellers.sellers _ c.args.count e s.0 s.1 s.2 s.3);
-        few = omega (arith, ap length e, length-replicate c.args.count Nothing, c.ranges.count.fits);
-      } ∣₁ }
+    record {
+      sound =
+          ∣ record {
+            sides = by_side Buyers (λ x. Kept x (tree_of x c.in_ok-buyers.buyers c.in_ok-sellers.sellers) (vec_items c.in_ok-entries.entries))
+                (kept_new Buyers c.in_ok-buyers.buyers _ c.args.count e b.0 b.1 b.2 b.3)
+                (kept_new Sellers c.in_ok-sellers.sellers _ c.args.count e s.0 s.1 s.2 s.3);
+            few = omega (arith, ap length e, length-replicate c.args.count Nothing, c.ranges.count.fits);
+          } ∣₁;
+    }
 
 pub returns : goal.returns
 unfolding members listed tree

@@ -1,11 +1,9 @@
-use Rattle.std.proofs.Common.{◌≡◌, ℕ, ◌+◌, ◌*◌, ◌^◌, ◌<◌, ◌≤◌, true, false, ◌||◌, List, map, length, get_or, set, vec_items, vec_len, sym, refl, ap, ◌∙◌, subst, arith}
+use Rattle.std.proofs.Common.{◌<◌, ◌||◌, map, length, get_or, set, vec_items, vec_len, sym, refl, ap, ◌∙◌, subst, arith}
 use Rattle.ranking_wide.specs.declared.ranked.Side.TheVariants.{Buyers, Sellers}
-use Rattle.ranking_wide.specs.declared.ranked.Ranked.{Ranked}
 use Rattle.ranking_wide.specs.declared.tree.Tree.{Tree}
-use Rattle.ranking_wide.specs.Books.{counts, listed, members, tree}
+use Rattle.ranking_wide.specs.Books.{listed, members, tree}
 use Rattle.ranking_wide.specs.Keys.{ranked_of}
-use Rattle.ranking_wide.specs.Sound.{tree_of}
-use Rattle.ranking_wide.specs.Trees.{Grown, keys_of, leaves_of}
+use Rattle.ranking_wide.specs.Trees.{keys_of}
 use Rattle.ranking_wide.proofs.Sounds.{sound_from}
 use Rattle.std.proofs.lemmas.List.{get_or_read}
 use Rattle.std.proofs.lemmas.Bool.{or_from}
@@ -13,7 +11,7 @@ use Rattle.orders.specs.declared.entry.Entry.{Entry}
 use Rattle.orders.specs.declared.entry.Entry.TheVariants.{Nothing}
 use Rattle.ranking_wide.specs.Lists.{has}
 use Rattle.ranking_wide.specs.Sides.{opposite}
-use Rattle.ranking_wide.specs.Sound.{entry_on, is_on, Sound}
+use Rattle.ranking_wide.specs.Sound.{is_on, Sound}
 use Rattle.ranking_wide.proofs.Answering.{answer_fresh, answer_past, answer_there}
 use Rattle.ranking_wide.proofs.Standing.{has_on, listed_put, on_one, ready, sound_put}
 use Rattle.ranking_wide.proofs.book.Book.put.Goals as goal
@@ -62,11 +60,13 @@ pub invariant_of-self : goal.invariant_of-self
 invariant_of-self c =
     let p : c.args.member < length (vec_items c.args.self.now.entries) = omega (arith, c.if-slot-len.false, c.len.ensures, c.args.self.now.entries.ok.0) in
     let r = get_or_read (vec_items c.args.self.now.entries) c.args.member c.index.result.now p c.index.ensures Nothing in
-    record { sound =
-      ∣ subst (λ (e : Entry). Sound c.put_in.new.buyers c.put_in.new.sellers (set (vec_items c.args.self.now.entries) c.args.member e)) (sym c.entry_on.ensures)
+    record {
+      sound =
+          ∣ subst (λ (e : Entry). Sound c.put_in.new.buyers c.put_in.new.sellers (set (vec_items c.args.self.now.entries) c.args.member e)) (sym c.entry_on.ensures)
           (sound_put c.args.self.now.buyers c.args.self.now.sellers (vec_items c.args.self.now.entries) (sound_from c.args.self.now.sound) c.args.side c.args.member c.key_of-key.result
           c.args.cents p c.key_of-key.ensures.back c.put_in.new.buyers c.put_in.new.sellers c.put_in.ensures.other
-          (sym r ∙ c.in-Nothing.is) c.put_in.ensures.this) ∣₁ }
+          (sym r ∙ c.in-Nothing.is) c.put_in.ensures.this) ∣₁;
+    }
 
 pub returns : goal.returns
 unfolding members listed tree

@@ -1,17 +1,12 @@
-use Rattle.std.proofs.Common.{◌≡◌, ℕ, ◌+◌, ◌*◌, ◌^◌, ◌<◌, ◌≤◌, true, false, ◌||◌, List, map, length, get_or, set, Some, None, vec_items, vec_len, Option, sym, refl, ap, ◌∙◌, subst, arith}
-use Rattle.ranking_wide.specs.declared.ranked.Side.TheVariants.{Buyers, Sellers}
-use Rattle.ranking_wide.specs.declared.ranked.Ranked.{Ranked}
+use Rattle.std.proofs.Common.{◌<◌, map, length, get_or, vec_items, sym, refl, ap, ◌∙◌, arith}
 use Rattle.ranking_wide.specs.declared.tree.Tree.{Tree}
-use Rattle.ranking_wide.specs.Books.{counts, listed, members, tree}
+use Rattle.ranking_wide.specs.Books.{listed, members, tree}
 use Rattle.ranking_wide.specs.Keys.{ranked_of}
 use Rattle.ranking_wide.specs.Sound.{tree_of}
-use Rattle.ranking_wide.specs.Trees.{Grown, keys_of, leaves_of}
+use Rattle.ranking_wide.specs.Trees.{keys_of}
 use Rattle.ranking_wide.proofs.Sounds.{sound_from}
 use Rattle.std.proofs.lemmas.List.{get_or_past, get_or_read}
-use Rattle.std.proofs.lemmas.Bool.{or_from}
-use Rattle.orders.specs.declared.entry.Entry.{Entry}
 use Rattle.orders.specs.declared.entry.Entry.TheVariants.{Nothing}
-use Rattle.ranking_wide.specs.Lists.{has}
 use Rattle.ranking_wide.specs.Sides.{opposite}
 use Rattle.ranking_wide.specs.Sound.{mark, mark_on}
 use Rattle.ranking_wide.specs.Ranks.{on_side}
@@ -41,10 +36,12 @@ pub invariant_of-self : goal.invariant_of-self
 invariant_of-self c =
     let p : c.args.member < length (vec_items c.args.self.now.entries) = omega (arith, c.if-slot-len.false, c.len.ensures, c.args.self.now.entries.ok.0) in
     let r = get_or_read (vec_items c.args.self.now.entries) c.args.member c.index.result.now p c.index.ensures Nothing in
-    record { sound =
-      ∣ sound_take c.args.self.now.buyers c.args.self.now.sellers (vec_items c.args.self.now.entries) (sound_from c.args.self.now.sound) c.args.side c.args.member c.key_of-key.result
+    record {
+      sound =
+          ∣ sound_take c.args.self.now.buyers c.args.self.now.sellers (vec_items c.args.self.now.entries) (sound_from c.args.self.now.sound) c.args.side c.args.member c.key_of-key.result
           c.in-Some.cents p c.key_of-key.ensures.back c.take_from.new.buyers c.take_from.new.sellers c.take_from.ensures.other
-          (ap (on_side c.args.side) (sym r) ∙ sym c.in-Some.ensures) c.key_of-key.ensures.bound c.take_from.ensures.this ∣₁ }
+          (ap (on_side c.args.side) (sym r) ∙ sym c.in-Some.ensures) c.key_of-key.ensures.bound c.take_from.ensures.this ∣₁;
+    }
 
 pub returns : goal.returns
 unfolding members listed tree

@@ -1,4 +1,4 @@
-use Rattle.std.proofs.Common.{◌≡◌, vec_items, Option, sym, refl, ◌∙◌, subst, arith}
+use Rattle.std.proofs.Common.{vec_items, Option, sym, refl, ◌∙◌, subst, arith}
 use Rattle.ranking_wide.specs.declared.book.Book.{Book}
 use Rattle.ranking_wide.specs.Indexes.{book_of}
 use Rattle.ranking_wide.proofs.AllKinds.{book_there, book_past, Tells}

@@ -1,4 +1,4 @@
-use Rattle.std.proofs.Common.{◌≡◌, ◌+◌, cond, ltb, List, [], ◌∷◌, length, vec_items, vec_len, sym, ap, ◌∙◌, subst, arith}
+use Rattle.std.proofs.Common.{◌≡◌, ◌+◌, cond, ltb, List, [], ◌∷◌, vec_items, sym, ap, ◌∙◌, subst, arith}
 use Rattle.std.specs.List.{AllByRecursion as All}
 use Rattle.std.proofs.ByRecursion.{All-append}
 use Rattle.ranking_wide.specs.declared.book.Book.{Book}

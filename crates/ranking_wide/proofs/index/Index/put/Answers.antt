@@ -1,4 +1,4 @@
-use Rattle.std.proofs.Common.{◌≡◌, cond, not, ◌&&◌, ◌||◌, ltb, vec_items, sym, refl, ap, ◌∙◌, arith}
+use Rattle.std.proofs.Common.{cond, not, ◌&&◌, ◌||◌, ltb, vec_items, sym, refl, ap, ◌∙◌, arith}
 use Rattle.ranking_wide.specs.declared.ranked.Side.TheVariants.{Buyers, Sellers}
 use Rattle.ranking_wide.specs.Books.{ranked_as}
 use Rattle.ranking_wide.specs.Indexes.{book_of, book_list, book_members}

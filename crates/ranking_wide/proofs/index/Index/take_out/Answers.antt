@@ -1,4 +1,4 @@
-use Rattle.std.proofs.Common.{◌≡◌, vec_items, sym, refl, ap, ◌∙◌}
+use Rattle.std.proofs.Common.{vec_items, sym, refl, ap, ◌∙◌}
 use Rattle.ranking_wide.specs.Indexes.{book_of, book_list}
 use Rattle.ranking_wide.specs.Lists.{has, less}
 use Rattle.ranking_wide.specs.Sides.{opposite}

@@ -1,8 +1,7 @@
-use Rattle.std.proofs.Common.{◌≡◌, ℕ, suc, ◌+◌, ◌*◌, ◌^◌, ◌<◌, ◌≤◌, List, map, length, get_or, take, drop, set, vec_items, vec_len, sym, refl, ap, ◌∙◌, subst, arith, rules}
-use Rattle.std.proofs.lemmas.List.{get_or_read, get_or_read_under, length-map, length-set, take_all}
-use Rattle.ranking_wide.specs.declared.leaf.Leaf.{Leaf}
-use Rattle.ranking_wide.specs.Leaves.{part, laid, blank, Changed, Found}
-use Rattle.ranking_wide.specs.Trees.{leaves_of, keys_of}
+use Rattle.std.proofs.Common.{length, ap, ◌∙◌, arith}
+use Rattle.std.proofs.lemmas.List.{take_all}
+use Rattle.ranking_wide.specs.Leaves.{laid}
+use Rattle.ranking_wide.specs.Trees.{leaves_of}
 use Rattle.ranking_wide.proofs.tree.Tree.len.Goals as goal
 
 pub returns : goal.returns
