@@ -1,6 +1,6 @@
 -- The numbers of an outcome stay within those of its lists.
 use Rattle.std.proofs.Common.{ℕ, suc, ◌-◌, ◌*◌, ◌≤◌, List, length, inl, inr, mul-le-mul, arith}
-use Rattle.std.specs.List.{AllByRecursion as All}
+use Rattle.std.specs.List.{AllByRecursion}
 use Rattle.std.proofs.ByRecursion.{All-get_or}
 use Rattle.std.proofs.lemmas.List.{get_or_past}
 use Rattle.std.proofs.lemmas.Bool.{cases_lt}
@@ -11,7 +11,7 @@ use Rattle.clearing.specs.Statements.{WithinBounds}
 use Rattle.clearing.proofs.Critical.{Pairs}
 use Rattle.clearing.proofs.Settling.{Settled, no_pair, all_pairs, only_pair, but_last, pairs_are, settles}
 
-at_rank_most : (most : ℕ) (xs : List ℕ) (k : ℕ) → All (λ x. x ≤ most) xs → at_rank xs k ≤ most
+at_rank_most : (most : ℕ) (xs : List ℕ) (k : ℕ) → AllByRecursion (λ x. x ≤ most) xs → at_rank xs k ≤ most
 at_rank_most most xs k h =
     elim (cases_lt k (length xs))
     [ inl l ↦ All-get_or (λ x. x ≤ most) xs k 0 l h | inr l ↦ omega (arith, get_or_past xs k 0 l) ]

@@ -2,7 +2,7 @@
 -- what the ask is below it; over a matching these are at most what they are over all members, and at a price between the
 -- last pair and the next, all members' are those of the pairs.
 use Rattle.std.proofs.Common.{◌≡◌, ℕ, zero, suc, ◌+◌, ◌-◌, ◌*◌, ◌<◌, ◌≤◌, max, Bool, true, false, cond, leb, ◌⊎◌, List, [], ◌∷◌, map, length, get_or, take, set, is_some, Some, None, sum_by, sum, Option, sym, refl, ap, ◌∙◌, inl, inr, arith}
-use Rattle.std.specs.List.{AllByRecursion as All}
+use Rattle.std.specs.List.{AllByRecursion}
 use Rattle.std.proofs.lemmas.List.Sums.{sum_by-cons, sum_by-set}
 use Rattle.std.proofs.lemmas.List.{get_or-set_other, get_or_past}
 use Rattle.std.proofs.lemmas.Bool.{cases_lt, le-leb, lt-leb, cond-true, cond-false, both_ways}
@@ -53,7 +53,7 @@ module _ (f : Entry → ℕ) (f-nothing : f Nothing ≡ 0) where
   abbrev at_member : List Entry → ℕ → ℕ
   at_member row k = f (get_or row k Nothing)
 
-  same_others : (row : List Entry) (k : ℕ) (ks : List ℕ) → All (λ j. j ≡ k → ⊥) ks →
+  same_others : (row : List Entry) (k : ℕ) (ks : List ℕ) → AllByRecursion (λ j. j ≡ k → ⊥) ks →
       sum_by (at_member (set row k Nothing)) ks ≡ sum_by (at_member row) ks
   same_others row k [] d = refl
   same_others row k (j ∷ ks) d =
@@ -169,7 +169,7 @@ split_gain price (Some c) None h = absurd (both_ways false refl h)
 split_gain price (Some c) (Some d) h = omega arith
 
 split_gains : (price : ℕ) (row : List Entry) (ms : List Match) →
-    All (λ m. stands_on Sellers (get_or row m.seller Nothing) ≡ true) ms →
+    AllByRecursion (λ m. stands_on Sellers (get_or row m.seller Nothing) ≡ true) ms →
     all_bids row ms ≤ all_asks row ms + sum_by (λ m. measured (λ b. b - price) (number Buyers row m.buyer)) ms
     + sum_by (λ m. measured (λ a. price - a) (number Sellers row m.seller)) ms
 split_gains price row [] h = omega arith
@@ -219,7 +219,7 @@ at_most t (suc p) (x ∷ xs) =
 
 -- each pair of the matching counts on a side where each of its members passes the test
 counts_each : (s : Side) (t : ℕ → Bool) (row : List Entry) (part : Match → ℕ) (ms : List Match) →
-    All (λ m. stands_on s (get_or row (part m) Nothing) ≡ true) ms → All (λ m. t (cents_or_0 (number s row (part m))) ≡ true) ms →
+    AllByRecursion (λ m. stands_on s (get_or row (part m) Nothing) ≡ true) ms → AllByRecursion (λ m. t (cents_or_0 (number s row (part m))) ≡ true) ms →
     length ms ≡ sum_by (λ m. measured (λ x. one_if (t x)) (number s row (part m))) ms
 counts_each s t row part [] h k = refl
 counts_each s t row part (m ∷ ms) h k =
@@ -235,7 +235,7 @@ counts_each s t row part (m ∷ ms) h k =
     one (Some c) h k = cond-true _ _ _ k
 
 side_bound : (s : Side) (tie : ℕ → ℕ) (t : ℕ → Bool) (row : List Entry) (part : Match → ℕ) (ms : List Match) (p : ℕ) →
-    All (λ m. stands_on s (get_or row (part m) Nothing) ≡ true) ms → All (λ m. t (cents_or_0 (number s row (part m))) ≡ true) ms →
+    AllByRecursion (λ m. stands_on s (get_or row (part m) Nothing) ≡ true) ms → AllByRecursion (λ m. t (cents_or_0 (number s row (part m))) ≡ true) ms →
     Distinct (map part ms) →
     ((k : ℕ) → p ≤ k → k < length (cents_of (ranked s tie row)) → t (at_rank (cents_of (ranked s tie row)) k) ≡ false) →
     length ms ≤ p

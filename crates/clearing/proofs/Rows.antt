@@ -1,6 +1,6 @@
 -- From ranked lists to rows of entries: what the ranked list of a row holds, and how it changes with one member's entry.
 use Rattle.std.proofs.Common.{◌≡◌, ℕ, zero, suc, ◌+◌, ◌<◌, cond, List, [], ◌∷◌, length, get_or, set, Some, None, Option, sym, refl, ap, ◌∙◌, zero-add, arith}
-use Rattle.std.specs.List.{AllByRecursion as All}
+use Rattle.std.specs.List.{AllByRecursion}
 use Rattle.std.proofs.ByRecursion.{All-weaker}
 use Rattle.std.proofs.lemmas.List.{length-set, get_or-set_same}
 use Rattle.orders.specs.declared.money.Cents.{Cents}
@@ -49,12 +49,12 @@ module _ (s : Side) (tie : ℕ → ℕ) where
   of_tail m e es y h = (suc h.0, omega (arith, h.1), omega (arith, h.2), h.3)
 
   entered_of : (m : ℕ) (e : Entry) (es : List Entry) (o : Option Cents) (xs : List Ranked) → on_side s e ≡ o →
-      All (OfRow m (e ∷ es)) xs → All (OfRow m (e ∷ es)) (entered s tie m o xs)
+      AllByRecursion (OfRow m (e ∷ es)) xs → AllByRecursion (OfRow m (e ∷ es)) (entered s tie m o xs)
   entered_of m e es None xs f h = h
   entered_of m e es (Some c) xs f h =
       all_insert s tie (OfRow m (e ∷ es)) (standing m c) xs (0, omega arith, omega arith, f) h
 
-  of_row_from : (m : ℕ) (es : List Entry) → All (OfRow m es) (ranked_from s tie m es)
+  of_row_from : (m : ℕ) (es : List Entry) → AllByRecursion (OfRow m es) (ranked_from s tie m es)
   unfolding ranked_from
   of_row_from m [] = tt
   of_row_from m (e ∷ es) =
@@ -62,7 +62,7 @@ module _ (s : Side) (tie : ℕ → ℕ) where
       (All-weaker (OfRow (suc m) es) (OfRow m (e ∷ es)) (of_tail m e es) _ (of_row_from (suc m) es))
 
   entered_ordered : (m : ℕ) (e : Entry) (es : List Entry) (o : Option Cents) (xs : List Ranked) → ApartFrom tie m (e ∷ es) →
-      All (OfRow (suc m) es) xs → Ordered s tie xs → Ordered s tie (entered s tie m o xs)
+      AllByRecursion (OfRow (suc m) es) xs → Ordered s tie xs → Ordered s tie (entered s tie m o xs)
   entered_ordered m e es None xs a all h = h
   entered_ordered m e es (Some c) xs a all h =
       insert_ordered s tie (standing m c) xs (All-weaker _ _ differ xs all) h
@@ -145,7 +145,7 @@ ranked_ordered s tie row a = ordered_from s tie 0 row (apart_from_0 tie row a)
 abbrev pub InRow : Side → List Entry → Ranked → Type 0
 InRow s row y = (y.member < length row) × (number s row y.member ≡ Some y.cents)
 
-pub ranked_in_row : (s : Side) (tie : ℕ → ℕ) (row : List Entry) → All (InRow s row) (ranked s tie row)
+pub ranked_in_row : (s : Side) (tie : ℕ → ℕ) (row : List Entry) → AllByRecursion (InRow s row) (ranked s tie row)
 unfolding ranked
 ranked_in_row s tie row = All-weaker _ _ in_row _ (of_row_from s tie 0 row)
   where
@@ -185,7 +185,7 @@ module _ (s : Side) (tie : ℕ → ℕ) (row : List Entry) (a : Apart tie row) (
   apart_set : (e : Entry) → Apart tie (set row i e)
   apart_set e j k h m t = a j k (omega (arith, length-set row i e)) (omega (arith, length-set row i e)) t
 
-  fellows_differ : (w : Cents) → All (Differ tie (standing i w)) fellows
+  fellows_differ : (w : Cents) → AllByRecursion (Differ tie (standing i w)) fellows
   fellows_differ w = All-weaker _ _ differ fellows (ranked_in_row s tie (set row i Nothing))
     where
       differ : (y : Ranked) → InRow s (set row i Nothing) y → Differ tie (standing i w) y

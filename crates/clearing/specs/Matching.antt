@@ -1,7 +1,7 @@
 -- A matching pairs buyers with sellers of a row in any way at all, no member twice. Its gain is the sum of its bids less
 -- the sum of its asks.
 use Rattle.std.specs.Prelude.{◌≡◌, ℕ, ◌*◌, ◌≤◌, true, List, [], ◌∷◌, map, Some, None, sum_by, Option, ◌≢◌, slice_index_or}
-use Rattle.std.specs.List.{AllByRecursion as All}
+use Rattle.std.specs.List.{AllByRecursion}
 use Rattle.orders.specs.declared.money.Cents.{Cents}
 use Rattle.orders.specs.declared.entry.Entry.{Entry}
 use Rattle.orders.specs.declared.entry.Entry.TheVariants.{Nothing}
@@ -16,11 +16,11 @@ pub record Match : Type 0 where
 -- no number twice
 abbrev pub Distinct : List ℕ → Type 0
 Distinct [] = Unit {0}
-Distinct (k ∷ ks) = All (λ j. j ≢ k) ks × Distinct ks
+Distinct (k ∷ ks) = AllByRecursion (λ j. j ≢ k) ks × Distinct ks
 
 pub record Matching (row : List Entry) (ms : List Match) : Type 0 where
-  pub buyers_bid : All (λ m. stands_on Buyers (slice_index_or row m.buyer Nothing) ≡ true) ms
-  pub sellers_ask : All (λ m. stands_on Sellers (slice_index_or row m.seller Nothing) ≡ true) ms
+  pub buyers_bid : AllByRecursion (λ m. stands_on Buyers (slice_index_or row m.buyer Nothing) ≡ true) ms
+  pub sellers_ask : AllByRecursion (λ m. stands_on Sellers (slice_index_or row m.seller Nothing) ≡ true) ms
   pub buyers_once : Distinct (map (λ (m : Match). m.buyer) ms)
   pub sellers_once : Distinct (map (λ (m : Match). m.seller) ms)
 

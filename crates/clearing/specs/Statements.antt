@@ -2,7 +2,7 @@
 -- cents and prices in half cents, so a number of cents is doubled before it is compared with a price. The tie number of
 -- a member is a parameter, of which no two members of the row have the same.
 use Rattle.std.specs.Prelude.{◌≡◌, ℕ, ◌+◌, ◌*◌, ◌<◌, ◌≤◌, true, false, ◌⊎◌, List, map, length, take, Some, sum, count_by, ◌≢◌, slice_index_or}
-use Rattle.std.specs.List.{AllByRecursion as All}
+use Rattle.std.specs.List.{AllByRecursion}
 use Rattle.orders.specs.declared.money.Cents.{Cents}
 use Rattle.orders.specs.declared.entry.Entry.{Entry}
 use Rattle.orders.specs.declared.entry.Entry.TheVariants.{Nothing, Bid, Ask}
@@ -194,13 +194,13 @@ GreatestGain =
 -- No matching at one price, in half cents, has more pairs.
 abbrev pub MostAtOnePrice : Type 0
 MostAtOnePrice =
-    (tie : ℕ → ℕ) (row : List Entry) (ms : List Match) (price : ℕ) → Matching row ms → All (AtPrice price row) ms →
+    (tie : ℕ → ℕ) (row : List Entry) (ms : List Match) (price : ℕ) → Matching row ms → AllByRecursion (AtPrice price row) ms →
     length ms ≤ pairs_in tie row
 
 -- But a matching at several prices may have more that gain: bids 10 and 4, asks 3 and 9.
 abbrev pub MoreMayGain : Type 0
 MoreMayGain =
-    (row : List Entry) × (ms : List Match) × Matching row ms × All (Gains row) ms × (pairs_in own row < length ms)
+    (row : List Entry) × (ms : List Match) × Matching row ms × AllByRecursion (Gains row) ms × (pairs_in own row < length ms)
 
 -- 8. THE EVENINGS of the table are by the rule.
 abbrev pub EveningsTold : Type 0
@@ -222,7 +222,7 @@ pub record Within (most : ℕ) (bs as' : List ℕ) (o : Outcome) : Type 0 where
 
 abbrev pub WithinBounds : Type 0
 WithinBounds =
-    (most : ℕ) (bs as' : List ℕ) → All (λ b. b ≤ most) bs → All (λ a. a ≤ most) as' → Within most bs as' (cleared bs as')
+    (most : ℕ) (bs as' : List ℕ) → AllByRecursion (λ b. b ≤ most) bs → AllByRecursion (λ a. a ≤ most) as' → Within most bs as' (cleared bs as')
 
 -- THE SAME OF A COMPUTED OUTCOME, to the members of a row as they stand in it, each with its true number v: whatever
 -- other number w would trade, v trades too and at the same price, or w would gain nothing; who trades does not lose; and

@@ -2,7 +2,7 @@
 -- account and berths as its entry says.
 use Rattle.std.proofs.Common.{◌≡◌, ℕ, zero, suc, ◌+◌, ◌-◌, ◌*◌, ◌/◌, ◌^◌, ◌<◌, ◌≤◌, min, Bool, true, false, cond, eqb, ltb, List, [], ◌∷◌, length, get_or, take, Some, None, count_by, Option, sym, refl, ap, ◌∙◌, ap₂, inl, inr, arith}
 use mathlib.Core.Path.{fun_ext}
-use Rattle.std.specs.List.{AllByRecursion as All}
+use Rattle.std.specs.List.{AllByRecursion}
 use Rattle.std.proofs.lemmas.Nat.{div-mul-add}
 use Rattle.std.proofs.ByRecursion.{All-get_or, All-from_get_or, All-weaker, All-take}
 use Rattle.std.proofs.lemmas.List.{length-take-le}
@@ -24,7 +24,7 @@ use Rattle.ledger.specs.Trades.{trading, traded, account_cell, berth_cell, accou
 use Rattle.ledger.proofs.Cells.{touches, untouched, at_buyer, at_seller}
 use Rattle.ledger.proofs.Trading.{apart, not_both}
 
-none_counted : (p : Ranked → Bool) (xs : List Ranked) → All (λ x. p x ≡ false) xs → count_by p xs ≡ 0
+none_counted : (p : Ranked → Bool) (xs : List Ranked) → AllByRecursion (λ x. p x ≡ false) xs → count_by p xs ≡ 0
 none_counted p [] h = refl
 none_counted p (x ∷ xs) h =
     sum_by-cons (λ x. cond (p x) 1 0) x xs ∙ ap₂ ◌+◌ (cond-false {A = ℕ} (p x) 1 0 h.0) (none_counted p xs h.1)
@@ -46,7 +46,7 @@ one_counted p d (x ∷ xs) zero (suc t) l e alone =
     ∙ ap₂ ◌+◌ (cond-true {A = ℕ} (p x) 1 0 e) (none_counted p (take t xs) (All-take (λ y. p y ≡ false) t xs others))
     ∙ sym (cond-true {A = ℕ} (ltb 0 (suc t)) 1 0 (lt-ltb 0 (suc t) (omega arith)))
   where
-    others : All (λ y. p y ≡ false) xs
+    others : AllByRecursion (λ y. p y ≡ false) xs
     others = All-from_get_or (λ y. p y ≡ false) xs d (λ q m. go q m (p (get_or xs q d)) refl)
       where
         go : (q : ℕ) → q < length xs → (b : Bool) → p (get_or xs q d) ≡ b → b ≡ false

@@ -1,6 +1,6 @@
 -- No sum of an evening's money comes near the end of its word.
 use Rattle.std.proofs.Common.{◌≡◌, ℕ, ◌+◌, ◌-◌, ◌*◌, ◌<◌, ◌≤◌, Bool, true, false, cond, ◌&&◌, eqb, ltb, leb, List, length, get_or, Some, None, sum_by, unwrap_or, refl, ap, mul-le-mul, arith}
-use Rattle.std.specs.List.{range_with_len, AllByRecursion as All}
+use Rattle.std.specs.List.{range_with_len, AllByRecursion}
 use Rattle.std.proofs.ByRecursion.{All-weaker, All-map, All-from_get_or, sum_by_le}
 use Rattle.std.proofs.lemmas.List.FromFn.{length-range_with_len}
 use Rattle.std.proofs.lemmas.List.Sums.{count_by-le-length}
@@ -54,7 +54,7 @@ on_side_cents Sellers (Bid b) c h = let z : ◌≡◌ {A = ℕ} 0 1 = cc in absu
 on_side_cents Sellers (Ask b) c h = cc
 
 module _ (row : List Entry) (low : (i : ℕ) → i < length row → cents_in (get_or row i Nothing) ≤ most) where
-  low_ranked : (s : Side) → All (λ c. c ≤ most) (cents_of (ranked s own row))
+  low_ranked : (s : Side) → AllByRecursion (λ c. c ≤ most) (cents_of (ranked s own row))
   low_ranked s =
       All-map (λ c. c ≤ most) (λ (x : Ranked). x.cents.0) (ranked s own row)
       (All-weaker (InRow s row) (λ x. x.cents.0 ≤ most)

@@ -3,7 +3,7 @@ use Rattle.std.proofs.Common.{◌≡◌, ℕ, ◌<◌, Bool, true, false, cond, 
 use Rattle.std.proofs.ByRecursion.{All-weaker}
 use Rattle.std.proofs.lemmas.List.{set-get_or, get_or-set_same, length-set}
 use Rattle.std.proofs.lemmas.Bool.{eq-eqb, ne_eqb, or_parts, or_from, lt-ltb}
-use Rattle.std.specs.List.{AllByRecursion as All}
+use Rattle.std.specs.List.{AllByRecursion}
 use Rattle.orders.specs.declared.entry.Entry.{Entry}
 use Rattle.orders.specs.declared.entry.Entry.TheVariants.{Nothing, Bid, Ask}
 use Rattle.orders.specs.declared.money.Cents.{Cents}
@@ -24,7 +24,7 @@ own_apart : (row : List Entry) → Apart own row
 own_apart row i j _ _ e = e
 
 -- a list in which no member is m
-has_none : (m : ℕ) (xs : List Ranked) → All (λ x. x.member ≡ m → ⊥) xs → has m xs ≡ false
+has_none : (m : ℕ) (xs : List Ranked) → AllByRecursion (λ x. x.member ≡ m → ⊥) xs → has m xs ≡ false
 has_none m [] h = refl
 has_none m (x ∷ xs) h = or_from (eqb x.member m) (has m xs) (ne_eqb x.member m h.0) (has_none m xs h.1)
 

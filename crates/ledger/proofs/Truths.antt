@@ -10,7 +10,7 @@ use Rattle.orders.specs.declared.refusal.Refusal.{Refusal}
 use Rattle.orders.specs.Entries.{encoded, kind_row, bid_in}
 use Rattle.orders.specs.Lent.{Held, Fits, entry_at, position, judged, entries_after, numbers_after, committed_after, held_after}
 use Rattle.orders.specs.Taking.{Position}
-use Rattle.orders.specs.Members.{own as own-messages, own_answers, bids, Backed, Sound}
+use Rattle.orders.specs.Members.{own as own_messages, own_answers, bids, Backed, Sound}
 use Rattle.orders.specs.Running.{run, answers_to}
 use Rattle.orders.specs.Statements.{AllSound}
 use Rattle.orders.specs.Words.{byte_at, word2}
@@ -172,7 +172,7 @@ module _ (K M : ℕ) where
 
   -- others who write the same have the same entries
   pub others_same : (h : Held) (ms ns : List (List ℕ)) (i : ℕ) →
-      ((j : ℕ) → j < M → (j ≡ i → ⊥) → own-messages j ns ≡ own-messages j ms) → Others i (run K M h ms) (run K M h ns)
+      ((j : ℕ) → j < M → (j ≡ i → ⊥) → own_messages j ns ≡ own_messages j ms) → Others i (run K M h ms) (run K M h ns)
   others_same h ms ns i o j k l m d =
       ap (λ (p : Position). p.entry k)
       ((alone_for K M j l h ns).0 ∙ ap (λ xs. position K M (run K M h xs) j) (o j l d) ∙ sym (alone_for K M j l h ms).0)
@@ -183,7 +183,7 @@ module _ (K M : ℕ) where
       (k : ℕ) → k < K → sort_of (entry_at M (run K M h ms).entries i k) ≡ sort_of (entry_at M (run K M h ns).entries i k)
 
   runs_differ : (h : Held) (ms ns : List (List ℕ)) (i : ℕ) →
-      ((j : ℕ) → j < M → (j ≡ i → ⊥) → own-messages j ns ≡ own-messages j ms) → Sorts h ms ns i →
+      ((j : ℕ) → j < M → (j ≡ i → ⊥) → own_messages j ns ≡ own_messages j ms) → Sorts h ms ns i →
       ButForCents K M i (run K M h ms) (run K M h ns)
   runs_differ h ms ns i o same =
       record {

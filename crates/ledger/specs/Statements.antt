@@ -8,7 +8,7 @@ use Rattle.orders.specs.declared.entry.Entry.TheVariants.{Nothing, Bid, Ask}
 use Rattle.orders.specs.declared.money.Cents.{Cents}
 use Rattle.orders.specs.Entries.{kind_row}
 use Rattle.orders.specs.Lent.{Held, Fits, entry_at, position}
-use Rattle.orders.specs.Members.{own as own-messages, own_answers, Sound}
+use Rattle.orders.specs.Members.{own as own_messages, own_answers, Sound}
 use Rattle.orders.specs.Running.{run, answers_to}
 use Rattle.orders.specs.Words.{byte_at, word2}
 use Rattle.ranking.specs.Ranks.{own}
@@ -42,7 +42,7 @@ TrueNumbers K M h =
 -- likes, so long as at closing it has entries of the same sorts.
 abbrev pub TrueEvenings : ℕ → ℕ → Held → List (List ℕ) → Type 0
 TrueEvenings K M h ms =
-    (ns : List (List ℕ)) (i : ℕ) → i < M → ((j : ℕ) → j < M → (j ≢ i) → own-messages j ns ≡ own-messages j ms) →
+    (ns : List (List ℕ)) (i : ℕ) → i < M → ((j : ℕ) → j < M → (j ≢ i) → own_messages j ns ≡ own_messages j ms) →
     ((k : ℕ) → k < K → sort_of (entry_at M (run K M h ms).entries i k) ≡ sort_of (entry_at M (run K M h ns).entries i k)) →
     worth_after K M (run K M h ns) (entry_at M (run K M h ms).entries i) i
     ≤ worth_after K M (run K M h ms) (entry_at M (run K M h ms).entries i) i

@@ -1,6 +1,6 @@
 -- The checker accepts exactly the letters of which each line follows.
 use Rattle.std.proofs.Common.{◌≡◌, ℕ, zero, suc, ◌+◌, ◌*◌, ◌<◌, ◌≤◌, Bool, true, false, cond, ltb, List, [], ◌∷◌, ◌++◌, length, get_or, take, drop, Some, None, Ok, Err, Option, Result, sym, refl, ap, ◌∙◌, inl, inr, arith}
-use Rattle.std.specs.List.{flat_map, AllByRecursion as All}
+use Rattle.std.specs.List.{flat_map, AllByRecursion}
 use Rattle.std.proofs.lemmas.List.{length-take, length-drop, length-append, drop_more, drop_all, drop-drop, drop_at, take_at, take-append-drop, get_or-take, get_or-drop, get_or_past}
 use Rattle.std.proofs.lemmas.Bool.{cases_lt, cases_eq, ltb-false, le-ltb, cond-true, cond-false}
 use Rattle.orders.specs.declared.refusal.Refusal.{Refusal}
@@ -50,7 +50,7 @@ next_place bs i =
 
 -- the lines that were accepted
 abbrev Lines : List ℕ → ℕ → List ℕ → Type 0
-Lines bs n rest = (ls : List Line) × (length ls ≡ n) × (rest ≡ flat_map line_bytes ls) × All (λ l. follows l ≡ true) ls
+Lines bs n rest = (ls : List Line) × (length ls ≡ n) × (rest ≡ flat_map line_bytes ls) × AllByRecursion (λ l. follows l ≡ true) ls
 
 accepted_from : (bs : List ℕ) → Bytes bs → (n i : ℕ) → checked_from bs i n ≡ Ok tt → Lines bs n (drop (line_place i) bs)
 unfolding checked_from
@@ -73,7 +73,7 @@ accepted_from bs b (suc n) i h =
     )
 
 accepts_from : (bs : List ℕ) (i : ℕ) (ls : List Line) → line_place i ≤ length bs → drop (line_place i) bs ≡ flat_map line_bytes ls →
-    All (λ l. follows l ≡ true) ls → checked_from bs i (length ls) ≡ Ok tt
+    AllByRecursion (λ l. follows l ≡ true) ls → checked_from bs i (length ls) ≡ Ok tt
 unfolding checked_from
 accepts_from bs i [] h e a = nothing_left bs i (omega (arith, length-drop (line_place i) bs, ap length e))
 accepts_from bs i (l ∷ ls) h e a =
@@ -88,7 +88,7 @@ accepts_from bs i (l ∷ ls) h e a =
     ap (λ r. and_then r (checked_from bs (suc i) (length ls))) ok
     ∙ accepts_from bs (suc i) ls (omega arith) rest a.1
 
-accepts_letter : (member : ℕ) (ls : List Line) → All (λ l. follows l ≡ true) ls → checked (letter_bytes member ls) ≡ Ok tt
+accepts_letter : (member : ℕ) (ls : List Line) → AllByRecursion (λ l. follows l ≡ true) ls → checked (letter_bytes member ls) ≡ Ok tt
 unfolding bytes2
 accepts_letter member ls a =
     cond-false _ _ _ (le-ltb (length (letter_bytes member ls)) 3 (omega arith))

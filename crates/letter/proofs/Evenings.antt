@@ -1,6 +1,6 @@
 -- The same over rows of entries, and over whole letters.
 use Rattle.std.proofs.Common.{◌≡◌, ℕ, zero, suc, ◌-◌, ◌*◌, ◌<◌, Bool, true, false, cond, ◌&&◌, eqb, ltb, leb, ◌⊎◌, List, length, get_or, take, drop, Some, None, Option, unwrap_or, sym, refl, ap, ◌∙◌, subst, inl, inr, arith}
-use Rattle.std.specs.List.{AllByRecursion as All}
+use Rattle.std.specs.List.{AllByRecursion}
 use Rattle.std.proofs.lemmas.List.{get_or-map, length-map, get_or-take}
 use Rattle.std.proofs.ByRecursion.{All-get_or, All-append}
 use Rattle.std.proofs.lemmas.Bool.Decides.{nat_tests}
@@ -132,12 +132,12 @@ line_follows row rr s k i c h =
 
 -- the lines of a letter
 entry_follows : (k : ℕ) (row : List Entry) → RowRanged row → (i : ℕ) (e : Entry) → get_or row i Nothing ≡ e →
-    All (λ l. follows l ≡ true) (entry_lines k row i e)
+    AllByRecursion (λ l. follows l ≡ true) (entry_lines k row i e)
 entry_follows k row rr i Nothing h = tt
 entry_follows k row rr i (Bid c) h = (line_follows row rr Buyers k i c (ap (on_side Buyers) h), tt)
 entry_follows k row rr i (Ask c) h = (line_follows row rr Sellers k i c (ap (on_side Sellers) h), tt)
 
-pub lines_follow : (M : ℕ) (codes : List ℕ) (i n k : ℕ) → All (λ l. follows l ≡ true) (lines_from M codes i n k)
+pub lines_follow : (M : ℕ) (codes : List ℕ) (i n k : ℕ) → AllByRecursion (λ l. follows l ≡ true) (lines_from M codes i n k)
 unfolding lines_from
 lines_follow M codes i zero k = tt
 lines_follow M codes i (suc n) k =

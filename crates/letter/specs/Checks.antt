@@ -1,6 +1,6 @@
 -- What the checker says of any bytes, in the order in which a letter is read: its head, its lines one by one, and its end.
 use Rattle.std.specs.Prelude.{◌≡◌, ℕ, zero, suc, ◌+◌, ◌*◌, Bool, true, false, cond, List, length, take, drop, Some, None, Ok, Err, Option, Result, nat_lt}
-use Rattle.std.specs.List.{AllByRecursion as All}
+use Rattle.std.specs.List.{AllByRecursion}
 use Rattle.orders.specs.Words.{byte_at}
 use Rattle.orders.specs.declared.refusal.Refusal.{Refusal}
 use Rattle.orders.specs.declared.refusal.Refusal.TheVariants.{Ends, GoesOn, NotByRule}
@@ -49,7 +49,7 @@ pub record Follows (bs : List ℕ) : Type 0 where
   pub member : ℕ
   pub lines : List Line
   pub bytes : bs ≡ letter_bytes member lines
-  pub each : All (λ l. follows l ≡ true) lines
+  pub each : AllByRecursion (λ l. follows l ≡ true) lines
 
 -- An answer that accepts these bytes if and only if they are such a letter.
 pub record Exactly (bs : List ℕ) (answer : Result Unit Refusal) : Type 0 where

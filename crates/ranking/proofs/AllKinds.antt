@@ -1,6 +1,6 @@
 -- One kind's book among those of all kinds.
 use Rattle.std.proofs.Common.{◌≡◌, ℕ, zero, suc, ◌+◌, ◌*◌, ◌^◌, ◌<◌, ◌≤◌, cond, ltb, List, [], ◌∷◌, length, get_or, set, Some, None, Option, sym, refl, ap, ◌∙◌, inl, inr, arith}
-use Rattle.std.specs.List.{AllByRecursion as All, slice_get}
+use Rattle.std.specs.List.{AllByRecursion, slice_get}
 use Rattle.std.proofs.lemmas.Option.{slice_get_read, slice_get_past}
 use Rattle.std.proofs.lemmas.Bool.{cases_eq, cond-true, cond-false, lt-ltb, le-ltb}
 use Rattle.ranking.specs.declared.book.Book.{Book}
@@ -59,12 +59,12 @@ module _ (m : ℕ) where
   abbrev pub New : Book → Type 0
   New b = (members b ≡ m) × ((s : Side) → listed s b ≡ [])
 
-  pub new_lists : (bs : List Book) → All New bs → (k : ℕ) (s : Side) → book_list s (slice_get bs k) ≡ []
+  pub new_lists : (bs : List Book) → AllByRecursion New bs → (k : ℕ) (s : Side) → book_list s (slice_get bs k) ≡ []
   new_lists [] h k s = refl
   new_lists (b ∷ bs) h zero s = h.0.1 s
   new_lists (b ∷ bs) h (suc k) s = new_lists bs h.1 k s
 
-  pub new_members : (bs : List Book) → All New bs → (k : ℕ) → book_members (slice_get bs k) ≡ cond (ltb k (length bs)) m 0
+  pub new_members : (bs : List Book) → AllByRecursion New bs → (k : ℕ) → book_members (slice_get bs k) ≡ cond (ltb k (length bs)) m 0
   new_members [] h k = sym (cond-false (ltb k 0) m 0 (le-ltb k 0 (omega arith)))
   new_members (b ∷ bs) h zero = h.0.0 ∙ sym (cond-true (ltb 0 (suc (length bs))) m 0 (lt-ltb 0 (suc (length bs)) (omega arith)))
   new_members (b ∷ bs) h (suc k) = new_members bs h.1 k ∙ ap (λ t. cond t m 0) (ltb_suc k (length bs))

@@ -1,7 +1,7 @@
 -- What a book's methods leave, from what the functions on its slots leave.
 use Rattle.std.proofs.Common.{◌≡◌, ℕ, zero, suc, ◌<◌, ◌≤◌, Bool, true, false, not, ◌&&◌, ◌||◌, eqb, ltb, List, [], ◌∷◌, map, length, set, replicate, Some, count_by, Option, sym, refl, ap, ◌∙◌, subst, inl, inr, arith}
 use Rattle.std.specs.Option.{option_map}
-use Rattle.std.specs.List.{slice_get, AllByRecursion as All}
+use Rattle.std.specs.List.{slice_get, AllByRecursion}
 use Rattle.std.proofs.lemmas.List.{length-replicate, get_or-replicate, get_or_past}
 use Rattle.std.proofs.lemmas.Bool.{lt-ltb, le-ltb, or_from, or_left, or_right, and_left, and_right, and_from, cases_lt, cases_Bool, cond_both, cond-true, cond-false}
 use Rattle.orders.specs.declared.money.Cents.{Cents}
@@ -31,8 +31,8 @@ pub ordered : (s : Side) (ks : List Cents) (xs : List ℕ) → Sorted (ahead s k
 ordered s ks [] h = tt
 ordered s ks (x ∷ xs) h = (among xs h.0, ordered s ks xs h.1)
   where
-    among : (ys : List ℕ) → All (λ y. ahead s ks x y ≡ true) ys
-        → All (λ y. before s own (ranked_at ks x) y ≡ true) (map (ranked_at ks) ys)
+    among : (ys : List ℕ) → AllByRecursion (λ y. ahead s ks x y ≡ true) ys
+        → AllByRecursion (λ y. before s own (ranked_at ks x) y ≡ true) (map (ranked_at ks) ys)
     among [] a = tt
     among (y ∷ ys) a = (a.0, among ys a.1)
 

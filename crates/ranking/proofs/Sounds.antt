@@ -5,7 +5,7 @@ use mathlib.Core.Logic.{∥∥₁_elim}
 use mathlib.Core.HLevel.{×_prop}
 use native.Mathlib.Bridge.{le_prop}
 use native.Mathlib.Nat.{ℕ_set}
-use Rattle.std.specs.List.{AllByRecursion as All}
+use Rattle.std.specs.List.{AllByRecursion}
 use Rattle.orders.specs.declared.money.Cents.{Cents}
 use Rattle.ranking.specs.declared.node.Node.{Node}
 use Rattle.ranking.specs.declared.ranked.Side.{Side}
@@ -33,7 +33,7 @@ rep_prop ns i (node l m r) =
       rep_prop ns (at ns m).right r x.5 y.5 j,
     )
 
-all_prop : (P : ℕ → Type 0) → ((x : ℕ) → IsProp (P x)) → (xs : List ℕ) → IsProp (All P xs)
+all_prop : (P : ℕ → Type 0) → ((x : ℕ) → IsProp (P x)) → (xs : List ℕ) → IsProp (AllByRecursion P xs)
 all_prop P h [] = λ x y j. tt
 all_prop P h (x ∷ xs) = ×_prop (h x) (all_prop P h xs)
 

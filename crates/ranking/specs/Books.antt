@@ -1,6 +1,6 @@
 -- What a kind's order book holds: for each side the ranked list, from its tree.
 use Rattle.std.specs.Prelude.{◌≡◌, ℕ, Bool, true, not, ◌&&◌, ◌||◌, List, [], ◌∷◌, map, vec_items, vec_len, nat_lt}
-use Rattle.std.specs.List.{AllByRecursion as All}
+use Rattle.std.specs.List.{AllByRecursion}
 use Rattle.orders.specs.declared.money.Cents.{Cents}
 use Rattle.ranking.specs.declared.book.Book.{Book}
 use Rattle.ranking.specs.declared.ranked.Side.{Side}
@@ -35,7 +35,7 @@ fresh m b = nat_lt m (members b) && not (has m (listed Buyers b) || has m (liste
 -- each comes before all that are after it
 abbrev pub Ordered : Side → List Ranked → Type 0
 Ordered s [] = Unit {0}
-Ordered s (x ∷ xs) = All (λ y. before s own x y ≡ true) xs × Ordered s xs
+Ordered s (x ∷ xs) = AllByRecursion (λ y. before s own x y ≡ true) xs × Ordered s xs
 
 abbrev pub ranked_as : ℕ → Cents → Ranked
 ranked_as m c = record { member = m; cents = c }

@@ -1,7 +1,7 @@
 -- Keys and the order of ranks.
 use Rattle.std.proofs.Common.{◌≡◌, ℕ, zero, suc, ◌+◌, ◌*◌, ◌/◌, ◌%◌, ◌^◌, ◌<◌, Bool, true, false, cond, not, ◌||◌, eqb, ltb, List, [], ◌∷◌, map, Some, count_by, filter, sym, refl, ap, ◌∙◌, zero-add, arith}
 use Rattle.std.specs.Option.{option_map}
-use Rattle.std.specs.List.{AllByRecursion as All, slice_get}
+use Rattle.std.specs.List.{AllByRecursion, slice_get}
 use Rattle.std.proofs.lemmas.Nat.{div-add-mod', div_below, div-mul-add, mod_below, mod-mul-add}
 use Rattle.std.proofs.lemmas.List.Sums.{sum_by-cons}
 use Rattle.std.proofs.lemmas.Bool.{lt-ltb}
@@ -58,7 +58,7 @@ same_key s j k p q e f =
 
 -- the lists of members that keys stand for
 module _ (s : Side) where
-  pub map_placed : (k : ℕ) (ks : List ℕ) → k < 2 ^ 48 → All (λ j. j < 2 ^ 48) ks
+  pub map_placed : (k : ℕ) (ks : List ℕ) → k < 2 ^ 48 → AllByRecursion (λ j. j < 2 ^ 48) ks
       → map (ranked_of s) (placed k ks) ≡ insert s own (ranked_of s k) (map (ranked_of s) ks)
   unfolding insert
   map_placed k [] p h = refl
@@ -72,7 +72,7 @@ module _ (s : Side) where
       map_cond true xs ys = refl
       map_cond false xs ys = refl
 
-  pub map_count : (k : ℕ) (ks : List ℕ) → k < 2 ^ 48 → All (λ j. j < 2 ^ 48) ks
+  pub map_count : (k : ℕ) (ks : List ℕ) → k < 2 ^ 48 → AllByRecursion (λ j. j < 2 ^ 48) ks
       → count_by (λ j. ltb j k) ks ≡ count_by (λ x. before s own x (ranked_of s k)) (map (ranked_of s) ks)
   map_count k [] p h = refl
   map_count k (j ∷ ks) p h =
@@ -104,15 +104,15 @@ module _ (s : Side) where
       go true n e = sym (lt-ltb 0 (1 + n) (omega arith))
       go false n e = e ∙ ap (ltb 0) (sym (zero-add n))
 
-  pub ordered_keys : (ks : List ℕ) → All (λ j. j < 2 ^ 48) ks → Ascending ks → Ordered s (map (ranked_of s) ks)
+  pub ordered_keys : (ks : List ℕ) → AllByRecursion (λ j. j < 2 ^ 48) ks → Ascending ks → Ordered s (map (ranked_of s) ks)
   ordered_keys [] h a = tt
   ordered_keys (k ∷ ks) h a = (after ks h.1 a.0, ordered_keys ks h.1 a.1)
     where
-      after : (js : List ℕ) → All (λ j. j < 2 ^ 48) js → All (λ j. k < j) js → All (λ y. before s own (ranked_of s k) y ≡ true) (map (ranked_of s) js)
+      after : (js : List ℕ) → AllByRecursion (λ j. j < 2 ^ 48) js → AllByRecursion (λ j. k < j) js → AllByRecursion (λ y. before s own (ranked_of s k) y ≡ true) (map (ranked_of s) js)
       after [] g b = tt
       after (j ∷ js) g b = (before_keys s k j h.0 g.0 ∙ lt-ltb k j b.0, after js g.1 b.1)
 
-pub nth_below : (ks : List ℕ) (i k : ℕ) → All (λ j. j < 2 ^ 48) ks → slice_get ks i ≡ Some k → k < 2 ^ 48
+pub nth_below : (ks : List ℕ) (i k : ℕ) → AllByRecursion (λ j. j < 2 ^ 48) ks → slice_get ks i ≡ Some k → k < 2 ^ 48
 nth_below [] i k h e = let z : ◌≡◌ {A = ℕ} 0 1 = cc in absurd (omega arith)
 nth_below (j ∷ ks) zero k h e = let z : j ≡ k = cc in omega (arith, h.0)
 nth_below (j ∷ ks) (suc i) k h e = nth_below ks i k h.1 e

@@ -5,7 +5,7 @@ use mathlib.Core.Logic.{∥∥₁_elim}
 use mathlib.Core.HLevel.{×_prop}
 use native.Mathlib.Bridge.{le_prop}
 use native.Mathlib.Nat.{ℕ_set}
-use Rattle.std.specs.List.{AllByRecursion as All}
+use Rattle.std.specs.List.{AllByRecursion}
 use Rattle.orders.specs.declared.entry.Entry.{Entry}
 use Rattle.ranking_wide.specs.declared.leaf.Leaf.{Leaf}
 use Rattle.ranking_wide.specs.declared.ranked.Side.{Side}
@@ -14,7 +14,7 @@ use Rattle.ranking_wide.specs.Leaves.{Ascending, Filled, from, part, Spans}
 use Rattle.ranking_wide.specs.Sound.{Kept, Sound}
 use Rattle.ranking_wide.specs.Trees.{Grown, keys_of, leaves_of}
 
-all_prop : (P : ℕ → Type 0) → ((x : ℕ) → IsProp (P x)) → (xs : List ℕ) → IsProp (All P xs)
+all_prop : (P : ℕ → Type 0) → ((x : ℕ) → IsProp (P x)) → (xs : List ℕ) → IsProp (AllByRecursion P xs)
 all_prop P h [] = λ x y j. tt
 all_prop P h (x ∷ xs) = ×_prop (h x) (all_prop P h xs)
 

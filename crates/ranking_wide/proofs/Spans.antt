@@ -1,6 +1,6 @@
 -- Leaves one after another: what holds of the keys of all of them, and one leaf in place of another.
 use Rattle.std.proofs.Common.{◌≡◌, ℕ, suc, ◌+◌, ◌<◌, ◌≤◌, ltb, List, [], ◌∷◌, ◌++◌, map, length, get_or, take, drop, count_by, sym, refl, ap, ◌∙◌, subst, arith}
-use Rattle.std.specs.List.{AllByRecursion as All}
+use Rattle.std.specs.List.{AllByRecursion}
 use Rattle.std.proofs.lemmas.List.Elements.{filter-append}
 use Rattle.std.proofs.ByRecursion.{All-weaker, All-append}
 use Rattle.std.proofs.lemmas.List.{append_assoc, set-get_or, set_split}
@@ -35,14 +35,14 @@ pub spans_low : (ls : List Leaf) (hi : ℕ) → Spans ls hi → from ls hi ≤ h
 spans_low [] hi h = omega arith
 spans_low (l ∷ ls) hi h = omega (arith, h.0.low, spans_low ls hi h.1)
 
-pub spans_below : (ls : List Leaf) (hi : ℕ) → Spans ls hi → All (λ k. k < hi) (laid ls)
+pub spans_below : (ls : List Leaf) (hi : ℕ) → Spans ls hi → AllByRecursion (λ k. k < hi) (laid ls)
 spans_below [] hi h = tt
 spans_below (l ∷ ls) hi h =
     All-append (λ k. k < hi) (part l) (laid ls)
     (All-weaker _ (λ k. k < hi) (λ k g. omega (arith, g.1, spans_low ls hi h.1)) (part l) h.0.within)
     (spans_below ls hi h.1)
 
-pub spans_above : (ls : List Leaf) (hi : ℕ) → Spans ls hi → All (λ k. from ls hi ≤ k) (laid ls)
+pub spans_above : (ls : List Leaf) (hi : ℕ) → Spans ls hi → AllByRecursion (λ k. from ls hi ≤ k) (laid ls)
 spans_above [] hi h = tt
 spans_above (l ∷ ls) hi h =
     All-append (λ k. l.low ≤ k) (part l) (laid ls)
@@ -63,10 +63,10 @@ module _ (fs bs : List Leaf) (l : Leaf) (hi : ℕ) (h : Spans (fs ++ l ∷ bs) h
   pub this_filled : Filled l (from bs hi)
   this_filled = (spans_back fs (l ∷ bs) hi h).0
 
-  before_low : All (λ k. k < l.low) (laid fs)
+  before_low : AllByRecursion (λ k. k < l.low) (laid fs)
   before_low = spans_below fs l.low (spans_front fs (l ∷ bs) hi h)
 
-  after_high : All (λ k. from bs hi ≤ k) (laid bs)
+  after_high : AllByRecursion (λ k. from bs hi ≤ k) (laid bs)
   after_high = spans_above bs hi (spans_back fs (l ∷ bs) hi h).1
 
   -- other leaves in its place
@@ -113,6 +113,6 @@ module _ (fs bs : List Leaf) (l : Leaf) (hi : ℕ) (h : Spans (fs ++ l ∷ bs) h
           count_none k (laid bs) (All-weaker _ (λ x. k ≤ x) (λ x g. omega arith) (laid bs) after_high),
         )
 
-pub few_each : (ls : List Leaf) (hi : ℕ) → Spans ls hi → All (λ n. n ≤ 32) (map (λ l. l.count) ls)
+pub few_each : (ls : List Leaf) (hi : ℕ) → Spans ls hi → AllByRecursion (λ n. n ≤ 32) (map (λ l. l.count) ls)
 few_each [] hi h = tt
 few_each (l ∷ ls) hi h = (h.0.few, few_each ls hi h.1)

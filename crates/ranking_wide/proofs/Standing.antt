@@ -1,6 +1,6 @@
 -- A side's tree and the members' entries, after a member has come in or gone.
 use Rattle.std.proofs.Common.{◌≡◌, ℕ, zero, suc, ◌+◌, ◌*◌, ◌/◌, ◌^◌, ◌<◌, ◌≤◌, Bool, true, false, cond, not, ◌||◌, eqb, ltb, List, [], ◌∷◌, map, length, get_or, set, replicate, Some, count_by, filter, sym, refl, ap, ◌∙◌, subst, inl, inr, arith}
-use Rattle.std.specs.List.{AllByRecursion as All}
+use Rattle.std.specs.List.{AllByRecursion}
 use Rattle.std.proofs.ByRecursion.{All-weaker}
 use Rattle.std.proofs.lemmas.List.Filters.{length-filter_both}
 use Rattle.std.proofs.lemmas.List.{get_or_past, get_or-replicate, get_or-set_other, get_or-set_same, length-replicate, length-set}
@@ -115,7 +115,7 @@ module _ (s : Side) (t : Tree) (es : List Entry) (m k : ℕ) (c : Cents) (h : Ke
   other_member : (j : ℕ) → mark_on s (get_or es (member_of j) Nothing) ≡ suc (worth s (j / 65536)) → member_of j ≡ m → ⊥
   other_member j g d = omega (arith, g, ap (λ i. mark_on s (get_or es i Nothing)) d, z)
 
-  pub key_new : All (λ j. j ≡ k → ⊥) (keys_of t)
+  pub key_new : AllByRecursion (λ j. j ≡ k → ⊥) (keys_of t)
   key_new = All-weaker _ (λ j. j ≡ k → ⊥) (λ j g d. other_member j g (ap member_of d ∙ ek)) (keys_of t) h.stands
 
   on_new : count_by (is_on s) (set es m (entry_on s c)) ≡ count_by (is_on s) es + 1
@@ -143,7 +143,7 @@ module _ (s : Side) (t : Tree) (es : List Entry) (m k : ℕ) (c : Cents) (h : Ke
   kept_put u w =
       record {
         grown = w.grown;
-        stands = subst (All (λ j. mark_on s (get_or (set es m (entry_on s c)) (member_of j) Nothing) ≡ suc (worth s (j / 65536)))) (sym w.keys)
+        stands = subst (AllByRecursion (λ j. mark_on s (get_or (set es m (entry_on s c)) (member_of j) Nothing) ≡ suc (worth s (j / 65536)))) (sym w.keys)
             (all_placed (λ j. mark_on s (get_or (set es m (entry_on s c)) (member_of j) Nothing) ≡ suc (worth s (j / 65536))) k (keys_of t)
             (ap (λ i. mark_on s (get_or (set es m (entry_on s c)) i Nothing)) ek ∙ here ∙ ap suc (sym ec))
             (All-weaker _ (λ j. mark_on s (get_or (set es m (entry_on s c)) (member_of j) Nothing) ≡ suc (worth s (j / 65536)))
@@ -182,7 +182,7 @@ module _ (s : Side) (t : Tree) (es : List Entry) (m k : ℕ) (c : Cents) (h : Ke
 module _ (s : Side) (t : Tree) (es : List Entry) (m k : ℕ) (c : ℕ) (h : Kept s t es) (p : m < length es) (b : k < 2 ^ 48)
     (z : mark_on s (get_or es m Nothing) ≡ suc c) (ek : member_of k ≡ m) (ec : worth s (k / 65536) ≡ c) where
   -- of the keys of the tree it is the member's alone
-  only_key : (ks : List ℕ) → All (λ j. j < 2 ^ 48) ks → All (λ j. mark_on s (get_or es (member_of j) Nothing) ≡ suc (worth s (j / 65536))) ks
+  only_key : (ks : List ℕ) → AllByRecursion (λ j. j < 2 ^ 48) ks → AllByRecursion (λ j. mark_on s (get_or es (member_of j) Nothing) ≡ suc (worth s (j / 65536))) ks
       → without k ks ≡ filter (λ j. not (eqb (member_of j) m)) ks
   only_key [] g a = refl
   only_key (j ∷ ks) g a =
@@ -204,7 +204,7 @@ module _ (s : Side) (t : Tree) (es : List Entry) (m k : ℕ) (c : ℕ) (h : Kept
   kept_take u w =
       record {
         grown = w.grown;
-        stands = subst (All (λ j. mark_on s (get_or (set es m Nothing) (member_of j) Nothing) ≡ suc (worth s (j / 65536)))) (sym (keys_left u w)) (left (keys_of t) h.stands);
+        stands = subst (AllByRecursion (λ j. mark_on s (get_or (set es m Nothing) (member_of j) Nothing) ≡ suc (worth s (j / 65536)))) (sym (keys_left u w)) (left (keys_of t) h.stands);
         once = λ n. ap (count_by (λ j. eqb (member_of j) n)) (keys_left u w) ∙ counted n;
         many = ap length (keys_left u w) ∙ omega (
           arith,
@@ -221,15 +221,15 @@ module _ (s : Side) (t : Tree) (es : List Entry) (m k : ℕ) (c : ℕ) (h : Kept
         narrow = omega (arith, h.narrow, w.most, length-set es m Nothing);
       }
     where
-      left : (ks : List ℕ) → All (λ j. mark_on s (get_or es (member_of j) Nothing) ≡ suc (worth s (j / 65536))) ks
-          → All (λ j. mark_on s (get_or (set es m Nothing) (member_of j) Nothing) ≡ suc (worth s (j / 65536))) (filter (λ j. not (eqb (member_of j) m)) ks)
+      left : (ks : List ℕ) → AllByRecursion (λ j. mark_on s (get_or es (member_of j) Nothing) ≡ suc (worth s (j / 65536))) ks
+          → AllByRecursion (λ j. mark_on s (get_or (set es m Nothing) (member_of j) Nothing) ≡ suc (worth s (j / 65536))) (filter (λ j. not (eqb (member_of j) m)) ks)
       left [] a = tt
       left (j ∷ ks) a =
           elim (cases_eq (member_of j) m) [
-            | inl e ↦ subst (All (λ j. mark_on s (get_or (set es m Nothing) (member_of j) Nothing) ≡ suc (worth s (j / 65536))))
+            | inl e ↦ subst (AllByRecursion (λ j. mark_on s (get_or (set es m Nothing) (member_of j) Nothing) ≡ suc (worth s (j / 65536))))
                 (ap (λ v. cond (not v) (j ∷ filter (λ j. not (eqb (member_of j) m)) ks) (filter (λ j. not (eqb (member_of j) m)) ks)) (sym (eq-eqb (member_of j) m e)))
                 (left ks a.1)
-            | inr d ↦ subst (All (λ j. mark_on s (get_or (set es m Nothing) (member_of j) Nothing) ≡ suc (worth s (j / 65536))))
+            | inr d ↦ subst (AllByRecursion (λ j. mark_on s (get_or (set es m Nothing) (member_of j) Nothing) ≡ suc (worth s (j / 65536))))
                 (ap (λ v. cond (not v) (j ∷ filter (λ j. not (eqb (member_of j) m)) ks) (filter (λ j. not (eqb (member_of j) m)) ks)) (sym (ne_eqb (member_of j) m d)))
                 (mark_at s es m (member_of j) Nothing d ∙ a.0, left ks a.1)
           ]
@@ -296,7 +296,7 @@ pub kept_new : (s : Side) (t : Tree) (es : List Entry) (n : ℕ) → es ≡ repl
 kept_new s t es n e g k p q =
     record {
       grown = g;
-      stands = subst (All (λ j. mark_on s (get_or es (member_of j) Nothing) ≡ suc (worth s (j / 65536)))) (sym k) tt;
+      stands = subst (AllByRecursion (λ j. mark_on s (get_or es (member_of j) Nothing) ≡ suc (worth s (j / 65536)))) (sym k) tt;
       once = λ m. ap (count_by (λ j. eqb (member_of j) m)) k
           ∙ sym (ap on_bit (ap (λ zs. mark_on s (get_or zs m Nothing)) e ∙ ap (mark_on s) (nothing_at n m) ∙ mark_nothing s));
       many = ap length k ∙ sym (ap (count_by (is_on s)) e ∙ none_on s n);
@@ -320,7 +320,7 @@ pub there_on : (s : Side) (e : Entry) (c : Cents) → on_side s e ≡ Some c →
 there_on s e c g = ap (ltb 0) (some_mark s e c g).0 ∙ lt-ltb 0 (suc c.0) (omega arith)
 
 module _ (b t : Tree) (es : List Entry) (h : Sound b t es) (s : Side) where
-  pub below_all : All (λ k. k < 2 ^ 48) (keys_of (tree_of s b t))
+  pub below_all : AllByRecursion (λ k. k < 2 ^ 48) (keys_of (tree_of s b t))
   below_all = spans_below (leaves_of (tree_of s b t)) (2 ^ 48) (h.sides s).grown.spans
 
   pub few_keys : length (keys_of (tree_of s b t)) ≤ 65535
@@ -333,7 +333,7 @@ module _ (b t : Tree) (es : List Entry) (h : Sound b t es) (s : Side) where
     ec : worth s (k / 65536) ≡ c.0
     ec = ap (λ (x : Ranked). x.cents.0) back
 
-    pub ready : get_or es m Nothing ≡ Nothing → Roomy (tree_of s b t) × All (λ j. j ≡ k → ⊥) (keys_of (tree_of s b t))
+    pub ready : get_or es m Nothing ≡ Nothing → Roomy (tree_of s b t) × AllByRecursion (λ j. j ≡ k → ⊥) (keys_of (tree_of s b t))
     ready z =
         let g = ap (mark_on s) z ∙ mark_nothing s in
         (roomy s (tree_of s b t) es m k c (h.sides s) p g ek ec, key_new s (tree_of s b t) es m k c (h.sides s) p g ek ec)

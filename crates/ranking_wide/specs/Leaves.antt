@@ -1,7 +1,7 @@
 -- The leaves of a side's tree, and the keys that they hold. A leaf has its count of keys, in ascending order, none of them
 -- below the leaf's own low number, and each below the next leaf's.
 use Rattle.std.specs.Prelude.{◌≡◌, ℕ, suc, ◌<◌, ◌≤◌, min, max, cond, not, List, [], ◌∷◌, ◌++◌, length, take, drop, filter, ◌==◌, nat_lt, slice_index, slice_index_or}
-use Rattle.std.specs.List.{AllByRecursion as All}
+use Rattle.std.specs.List.{AllByRecursion}
 use Rattle.ranking_wide.specs.declared.leaf.Leaf.{Leaf}
 
 abbrev pub part : Leaf → List ℕ
@@ -46,14 +46,14 @@ from (l ∷ ls) hi = l.low
 -- each is below all that are after it
 abbrev pub Ascending : List ℕ → Type 0
 Ascending [] = Unit {0}
-Ascending (x ∷ xs) = All (λ y. x < y) xs × Ascending xs
+Ascending (x ∷ xs) = AllByRecursion (λ y. x < y) xs × Ascending xs
 
 -- a leaf whose keys are below hi
 pub record Filled (l : Leaf) (hi : ℕ) : Type 0 where
   pub few : l.count ≤ 32
   pub count : length (part l) ≡ l.count
   pub low : l.low ≤ hi
-  pub within : All (λ k. (l.low ≤ k) × (k < hi)) (part l)
+  pub within : AllByRecursion (λ k. (l.low ≤ k) × (k < hi)) (part l)
   pub rises : Ascending (part l)
 
 -- leaves one after another, up to hi

@@ -1,7 +1,7 @@
 -- What always holds of a kind's book: the keys of a side's tree are those of the members that are on the side, each once,
 -- with the number that the member has, and the tree has place for the keys of all members.
 use Rattle.std.specs.Prelude.{◌≡◌, ℕ, suc, ◌+◌, ◌*◌, ◌/◌, ◌%◌, ◌<◌, ◌≤◌, Bool, cond, List, length, Some, None, count_by, Option, nat_eq, nat_lt, slice_index_or}
-use Rattle.std.specs.List.{AllByRecursion as All}
+use Rattle.std.specs.List.{AllByRecursion}
 use Rattle.orders.specs.declared.entry.Entry.{Entry}
 use Rattle.orders.specs.declared.entry.Entry.TheVariants.{Nothing, Bid, Ask}
 use Rattle.orders.specs.declared.money.Cents.{Cents}
@@ -33,7 +33,7 @@ member_of k = k % 65536
 
 pub record Kept (s : Side) (t : Tree) (es : List Entry) : Type 0 where
   pub grown : Grown t
-  pub stands : All (λ k. mark_on s (slice_index_or es (member_of k) Nothing) ≡ suc (worth s (k / 65536))) (keys_of t)
+  pub stands : AllByRecursion (λ k. mark_on s (slice_index_or es (member_of k) Nothing) ≡ suc (worth s (k / 65536))) (keys_of t)
   pub once : (m : ℕ) → count_by (λ k. nat_eq (member_of k) m) (keys_of t) ≡ cond (is_on s (slice_index_or es m Nothing)) 1 0
   pub many : length (keys_of t) ≡ count_by (is_on s) es
   pub place : 2 * length es + 33 < 33 * t.most

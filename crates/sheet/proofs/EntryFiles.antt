@@ -1,6 +1,6 @@
 -- A file of entries is read again as it was written.
 use Rattle.std.proofs.Common.{◌≡◌, ℕ, zero, suc, ◌+◌, ◌*◌, ◌/◌, ◌%◌, ◌<◌, ◌≤◌, List, [], ◌∷◌, ◌++◌, length, get_or, take, None, sym, refl, ap, ◌∙◌, ap₂, add-one, arith}
-use Rattle.std.specs.List.{flat_map, AllByRecursion as All}
+use Rattle.std.specs.List.{flat_map, AllByRecursion}
 use Rattle.std.proofs.lemmas.List.{length-append, take_more, take_all}
 use Rattle.std.proofs.lemmas.Bool.{cond-true, le-leb}
 use Rattle.std.proofs.lemmas.Bool.Decides.{nat_tests}
@@ -17,13 +17,13 @@ length_codes [] = refl
 length_codes (n ∷ codes) = omega (arith, length-append (bytes4 n) (flat_map bytes4 codes), length_bytes4 n, length_codes codes)
 
 -- the code at a place
-code_at : (codes : List ℕ) (i : ℕ) → All (λ n. n < 4294967296) codes → i < length codes → word4 (flat_map bytes4 codes) (4 * i) ≡ get_or codes i 0
+code_at : (codes : List ℕ) (i : ℕ) → AllByRecursion (λ n. n < 4294967296) codes → i < length codes → word4 (flat_map bytes4 codes) (4 * i) ≡ get_or codes i 0
 code_at [] i a h = absurd (omega arith)
 code_at (n ∷ codes) zero a h = word4_bytes n (flat_map bytes4 codes) a.0
 code_at (n ∷ codes) (suc i) a h =
     word4_past (bytes4 n) (flat_map bytes4 codes) (4 * i) (4 * suc i) (omega (arith, length_bytes4 n)) ∙ code_at codes i a.1 (omega arith)
 
-codes_first : (codes : List ℕ) (n : ℕ) → All (λ n. n < 4294967296) codes → n ≤ length codes → codes_in (flat_map bytes4 codes) n ≡ take n codes
+codes_first : (codes : List ℕ) (n : ℕ) → AllByRecursion (λ n. n < 4294967296) codes → n ≤ length codes → codes_in (flat_map bytes4 codes) n ≡ take n codes
 codes_first codes zero a h = refl
 codes_first codes (suc n) a h =
     ap₂ (λ xs x. xs ++ x ∷ []) (codes_first codes n a (omega arith)) (code_at codes n a (omega arith))

@@ -1,6 +1,6 @@
 -- How many bytes a sheet takes, and that its numbers fit their fields.
 use Rattle.std.proofs.Common.{◌≡◌, ℕ, zero, suc, ◌+◌, ◌-◌, ◌*◌, ◌<◌, ◌≤◌, true, cond, ◌&&◌, eqb, ltb, leb, List, [], ◌∷◌, ◌++◌, length, take, drop, Some, None, Option, unwrap_or, sym, refl, ap, ◌∙◌, le_refl, suc-mul, mul-le-mul, arith}
-use Rattle.std.specs.List.{AllByRecursion as All}
+use Rattle.std.specs.List.{AllByRecursion}
 use Rattle.std.proofs.lemmas.List.{length-append, length-take, length-map, append-nil, append_assoc}
 use Rattle.std.proofs.lemmas.Bool.{cond_both, cond-true}
 use Rattle.std.proofs.lemmas.Bool.Decides.{nat_tests}
@@ -102,12 +102,12 @@ low_decoded n =
 abbrev low : Ranked → Type 0
 low x = x.cents.0 ≤ 10000000
 
-low_ranked : (s : Side) (m : ℕ) (codes : List ℕ) → All low (ranked_from s own m (row_of codes))
+low_ranked : (s : Side) (m : ℕ) (codes : List ℕ) → AllByRecursion low (ranked_from s own m (row_of codes))
 unfolding ranked_from
 low_ranked s m [] = tt
 low_ranked s m (n ∷ codes) = among s (entry_of n) (low_decoded n) (ranked_from s own (suc m) (row_of codes)) (low_ranked s (suc m) codes)
   where
-    among : (s : Side) (e : Entry) → low_entry e → (xs : List Ranked) → All low xs → All low (entered s own m (on_side s e) xs)
+    among : (s : Side) (e : Entry) → low_entry e → (xs : List Ranked) → AllByRecursion low xs → AllByRecursion low (entered s own m (on_side s e) xs)
     among Buyers Nothing h xs a = a
     among Buyers (Bid c) h xs a = all_insert Buyers own low (record { member = m; cents = c }) xs h a
     among Buyers (Ask c) h xs a = a
@@ -115,12 +115,12 @@ low_ranked s m (n ∷ codes) = among s (entry_of n) (low_decoded n) (ranked_from
     among Sellers (Bid c) h xs a = a
     among Sellers (Ask c) h xs a = all_insert Sellers own low (record { member = m; cents = c }) xs h a
 
-low_cents : (xs : List Ranked) → All low xs → All (λ n. n ≤ 10000000) (cents_of xs)
+low_cents : (xs : List Ranked) → AllByRecursion low xs → AllByRecursion (λ n. n ≤ 10000000) (cents_of xs)
 low_cents [] a = tt
 low_cents (x ∷ xs) a = (a.0, low_cents xs a.1)
 
 -- no bid or ask of a row is above the most that may be written
-pub ranked_low : (s : Side) (codes : List ℕ) → All (λ x. x.cents.0 ≤ 10000000) (ranked s own (row_of codes))
+pub ranked_low : (s : Side) (codes : List ℕ) → AllByRecursion (λ x. x.cents.0 ≤ 10000000) (ranked s own (row_of codes))
 unfolding ranked
 ranked_low s codes = low_ranked s 0 codes
 

@@ -1,6 +1,6 @@
 -- What was written of a kind is read again.
 use Rattle.std.proofs.Common.{◌≡◌, ℕ, zero, suc, ◌+◌, ◌*◌, ◌/◌, ◌%◌, ◌<◌, ◌≤◌, Bool, true, ◌&&◌, List, [], ◌∷◌, ◌++◌, length, get_or, take, drop, Some, sym, ap, ◌∙◌, subst, ap₂, inl, inr, add_assoc, mod-eq_of_lt, arith}
-use Rattle.std.specs.List.{AllByRecursion as All}
+use Rattle.std.specs.List.{AllByRecursion}
 use Rattle.std.proofs.lemmas.Nat.{shr-shr, shr_below, div-add-mod'}
 use Rattle.std.proofs.ByRecursion.{All-take}
 use Rattle.std.proofs.lemmas.List.{append_assoc, length-append, length-map, length-take, get_or-append-add, take_at, drop_at}
@@ -139,7 +139,7 @@ unfolding bytes2 bytes4
 one_listed x rest h =
     ap₂ (λ m c. record { member = m; cents = record { 0 = c } }) (two x.member h.0) (four x.cents.0 h.1)
 
-listed_there : (xs : List Ranked) (r : ℕ) (d : Ranked) → All Listable xs → r < length xs → listed_at (row_bytes xs) r ≡ get_or xs r d
+listed_there : (xs : List Ranked) (r : ℕ) (d : Ranked) → AllByRecursion Listable xs → r < length xs → listed_at (row_bytes xs) r ≡ get_or xs r d
 listed_there [] r d a h = absurd (omega arith)
 listed_there (x ∷ xs) zero d a h = one_listed x (row_bytes xs) a.0
 listed_there (x ∷ xs) (suc r) d a h =
@@ -161,10 +161,10 @@ listed_row xs r a =
     ]
 
 -- who is listed of a row of entries
-pub ranked_listable : (s : Side) (codes : List ℕ) → length codes ≤ 65536 → All Listable (ranked s own (row_of codes))
+pub ranked_listable : (s : Side) (codes : List ℕ) → length codes ≤ 65536 → AllByRecursion Listable (ranked s own (row_of codes))
 ranked_listable s codes h = all_both (ranked s own (row_of codes)) (ranked_in_row s own (row_of codes)) (ranked_low s codes)
   where
-    all_both : (xs : List Ranked) → All (InRow s (row_of codes)) xs → All (λ x. x.cents.0 ≤ 10000000) xs → All Listable xs
+    all_both : (xs : List Ranked) → AllByRecursion (InRow s (row_of codes)) xs → AllByRecursion (λ x. x.cents.0 ≤ 10000000) xs → AllByRecursion Listable xs
     all_both [] a b = tt
     all_both (x ∷ xs) a b = (
       (omega (arith, a.0.0, length-map codes entry_of), omega (arith, b.0)),

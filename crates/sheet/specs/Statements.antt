@@ -1,6 +1,6 @@
 -- What is promised of sheets: the statements, and nothing else.
 use Rattle.std.specs.Prelude.{◌≡◌, ℕ, zero, suc, ◌+◌, ◌*◌, ◌/◌, ◌<◌, ◌≤◌, true, false, ◌⊎◌, List, ◌∷◌, ◌++◌, length, take, drop, is_some, None, Ok, Err, Result, slice_index}
-use Rattle.std.specs.List.{AllByRecursion as All, slice_get}
+use Rattle.std.specs.List.{AllByRecursion, slice_get}
 use Rattle.orders.specs.declared.refusal.Field.{Field}
 use Rattle.orders.specs.declared.refusal.Part.TheVariants.{Entries}
 use Rattle.orders.specs.declared.refusal.Refusal.{Refusal}
@@ -53,12 +53,12 @@ abbrev pub Listable : Ranked → Type 0
 Listable x = (x.member < 65536) × (x.cents.0 < 4294967296)
 
 abbrev pub RowReadAgain : Type 0
-RowReadAgain = (xs : List Ranked) (rank : ℕ) → All Listable xs → listed (row_bytes xs) rank ≡ slice_get xs rank
+RowReadAgain = (xs : List Ranked) (rank : ℕ) → AllByRecursion Listable xs → listed (row_bytes xs) rank ≡ slice_get xs rank
 
 -- Those that are listed of a kind's entries do.
 abbrev pub FirstListable : Type 0
 FirstListable =
-    (s : Side) (M : ℕ) (codes : List ℕ) (k : ℕ) → M ≤ 2000 → All Listable (first_ranks s (kind_row M codes k))
+    (s : Side) (M : ℕ) (codes : List ℕ) (k : ℕ) → M ≤ 2000 → AllByRecursion Listable (first_ranks s (kind_row M codes k))
 
 -- 3. WHAT IS ACCEPTED. Kinds, members and entries that are in range:
 pub record Proper (K M : ℕ) (codes : List ℕ) : Type 0 where
@@ -157,5 +157,5 @@ pub record FileBack (K M : ℕ) (codes bs : List ℕ) : Type 0 where
 
 abbrev pub FileReadAgain : Type 0
 FileReadAgain =
-    (K M : ℕ) (codes : List ℕ) → Proper K M codes → length codes ≡ K * M → All (λ n. n < 4294967296) codes →
+    (K M : ℕ) (codes : List ℕ) → Proper K M codes → length codes ≡ K * M → AllByRecursion (λ n. n < 4294967296) codes →
     FileBack K M codes (file_of K M codes)

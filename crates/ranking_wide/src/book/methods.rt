@@ -8,7 +8,7 @@ ghost use Rattle.ranking_wide.specs.Ranks.{before, insert as inserted, on_side, 
 ghost use Rattle.ranking_wide.specs.Sides.{opposite};
 ghost use Rattle.ranking_wide.specs.Sound.{entry_on, tree_of};
 ghost use Rattle.ranking_wide.specs.Trees.{Grown, Held, keys_of, Roomy};
-ghost use Rattle.std.specs.List.{AllByRecursion as All, slice_get};
+ghost use Rattle.std.specs.List.{AllByRecursion, slice_get};
 
 use crate::book::Book;
 use crate::key::{key_of, ranked_of};
@@ -43,7 +43,7 @@ fn put_in(side: Side, buyers: &mut Tree, sellers: &mut Tree, key: u64)
     requires grown { Grown (tree_of side buyers.old sellers.old) }
     requires room { Roomy (tree_of side buyers.old sellers.old) }
     requires below { key < 2 ^ 48 }
-    requires new { All (λ k. k ≢ key) (keys_of (tree_of side buyers.old sellers.old)) }
+    requires new { AllByRecursion (λ k. k ≢ key) (keys_of (tree_of side buyers.old sellers.old)) }
     ensures this { Held (tree_of side buyers.old sellers.old) (tree_of side buyers.new sellers.new) (placed key (keys_of (tree_of side buyers.old sellers.old))) }
     ensures other { tree_of (opposite side) buyers.new sellers.new ≡ tree_of (opposite side) buyers.old sellers.old }
 {
@@ -81,7 +81,7 @@ impl Book {
         ensures count { result ≡ length (listed side self.now) }
         ensures ordered { Ordered side (listed side self.now) }
         ensures shallow { 4 ^ depth side self.now ≤ 3 ^ depth side self.now * (result + 1) }
-        ensures leaves { All (λ n. n ≤ 32) (counts side self.now) }
+        ensures leaves { AllByRecursion (λ n. n ≤ 32) (counts side self.now) }
         ensures root { 16 * length (counts side self.now) ≤ members self.now + 32 }
     {
         self.tree(side).len() as u16

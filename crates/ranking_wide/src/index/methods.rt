@@ -6,7 +6,7 @@ ghost use Rattle.ranking_wide.specs.Indexes.{free, kind_counts, kind_depth, kind
 ghost use Rattle.ranking_wide.specs.Lists.{has, less};
 ghost use Rattle.ranking_wide.specs.Ranks.{before, insert as inserted, own};
 ghost use Rattle.ranking_wide.specs.Sides.{opposite};
-ghost use Rattle.std.specs.List.{AllByRecursion as All, slice_get};
+ghost use Rattle.std.specs.List.{AllByRecursion, slice_get};
 
 use crate::book::Book;
 use crate::index::Index;
@@ -31,7 +31,7 @@ impl Index {
         ensures count { result ≡ length (kind_list kind side self.now) }
         ensures ordered { Ordered side (kind_list kind side self.now) }
         ensures shallow { 4 ^ kind_depth kind side self.now ≤ 3 ^ kind_depth kind side self.now * (result + 1) }
-        ensures leaves { All (λ n. n ≤ 32) (kind_counts kind side self.now) }
+        ensures leaves { AllByRecursion (λ n. n ≤ 32) (kind_counts kind side self.now) }
         ensures root { 16 * length (kind_counts kind side self.now) ≤ kind_members kind self.now + 32 }
     {
         let slot = kind as usize;

@@ -1,5 +1,5 @@
 use Rattle.std.proofs.Common.{◌≡◌, [], vec_items, vec_len}
-use Rattle.std.specs.List.{AllByRecursion as All}
+use Rattle.std.specs.List.{AllByRecursion}
 use Rattle.ranking.specs.declared.ranked.Side.{Side}
 use Rattle.ranking.specs.Books.{listed, members}
 use Rattle.ranking.proofs.index.Index.new.Given as goal
@@ -8,4 +8,4 @@ use Rattle.ranking.proofs.index.Index.new.Given as goal
 abbrev pub invariant-loop-kind : goal.invariant-loop-kind
 invariant-loop-kind l =
     (vec_len l.books ≡ l._kind)
-    × All (λ b. (members b ≡ l.members) × ((s : Side) → listed s b ≡ [])) (vec_items l.books)
+    × AllByRecursion (λ b. (members b ≡ l.members) × ((s : Side) → listed s b ≡ [])) (vec_items l.books)

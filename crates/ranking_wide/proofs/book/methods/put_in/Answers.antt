@@ -1,5 +1,5 @@
 use Rattle.std.proofs.Common.{◌≡◌, subst}
-use Rattle.std.specs.List.{AllByRecursion as All}
+use Rattle.std.specs.List.{AllByRecursion}
 use Rattle.ranking_wide.specs.declared.ranked.Side.{Side}
 use Rattle.ranking_wide.specs.Sound.{tree_of}
 use Rattle.ranking_wide.specs.Trees.{Grown, keys_of, Roomy}
@@ -11,7 +11,7 @@ put-requires c =
       grown = subst (λ (s : Side). Grown (tree_of s c.args.buyers.now c.args.sellers.now)) c.in-Buyers.is c.requires.grown;
       room = subst (λ (s : Side). Roomy (tree_of s c.args.buyers.now c.args.sellers.now)) c.in-Buyers.is c.requires.room;
       below = c.requires.below;
-      new = subst (λ (s : Side). All (λ k. k ≡ c.args.key → ⊥) (keys_of (tree_of s c.args.buyers.now c.args.sellers.now)))
+      new = subst (λ (s : Side). AllByRecursion (λ k. k ≡ c.args.key → ⊥) (keys_of (tree_of s c.args.buyers.now c.args.sellers.now)))
           c.in-Buyers.is c.requires.new;
     }
 
@@ -21,6 +21,6 @@ put-requires-in-Sellers c =
       grown = subst (λ (s : Side). Grown (tree_of s c.args.buyers.now c.args.sellers.now)) c.in-Sellers.is c.requires.grown;
       room = subst (λ (s : Side). Roomy (tree_of s c.args.buyers.now c.args.sellers.now)) c.in-Sellers.is c.requires.room;
       below = c.requires.below;
-      new = subst (λ (s : Side). All (λ k. k ≡ c.args.key → ⊥) (keys_of (tree_of s c.args.buyers.now c.args.sellers.now)))
+      new = subst (λ (s : Side). AllByRecursion (λ k. k ≡ c.args.key → ⊥) (keys_of (tree_of s c.args.buyers.now c.args.sellers.now)))
           c.in-Sellers.is c.requires.new;
     }

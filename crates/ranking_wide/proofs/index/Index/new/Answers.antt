@@ -1,5 +1,5 @@
 use Rattle.std.proofs.Common.{◌≡◌, ◌+◌, cond, ltb, List, [], ◌∷◌, vec_items, sym, ap, ◌∙◌, subst, arith}
-use Rattle.std.specs.List.{AllByRecursion as All}
+use Rattle.std.specs.List.{AllByRecursion}
 use Rattle.std.proofs.ByRecursion.{All-append}
 use Rattle.ranking_wide.specs.declared.book.Book.{Book}
 use Rattle.ranking_wide.specs.Indexes.{book_of}
@@ -9,7 +9,7 @@ use Rattle.ranking_wide.proofs.index.Index.new.Goals as goal
 pub loop-kind-preserved : goal.loop-kind-preserved
 loop-kind-preserved c = (
   c.in_ok-push.ensures.len ∙ ap (λ n. n + 1) c.loop-kind.invariant.0,
-  subst (λ (bs : List Book). All (New c.args.members) bs) (sym c.in_ok-push.ensures.items)
+  subst (λ (bs : List Book). AllByRecursion (New c.args.members) bs) (sym c.in_ok-push.ensures.items)
       (All-append (New c.args.members) (vec_items c.loop-kind.books) (c.in_ok-new.field-0 ∷ [])
       c.loop-kind.invariant.1 (c.in_ok-new.ensures, tt)),
 )
