@@ -5,24 +5,19 @@
 .PHONY: demo test fuzz bench
 
 demo:
-	@mkdir -p target && rt check evening check_sheet check_letter > target/demo.log 2>&1 || { cat target/demo.log; exit 1; }
+	@sh tests/build.sh evening check_sheet check_letter
 	@target/bin/evening --out target/demo < crates/evening/stdin
 	@echo "sheet: $$(target/bin/check_sheet target/demo/entries.bin target/demo/sheet.bin)"
 	@for letter in target/demo/letter-*.bin; do echo "$$letter: $$(target/bin/check_letter $$letter)"; done
 
 test:
-	@sh tests/cli.sh
-	@sh tests/letters.sh
-	@sh tests/random.sh
-	@sh tests/fuzz.sh 8000 15 1 9
-	@rt ci
+	@sh tests/gate.sh
 
 fuzz:
-	@for program in evening check_sheet check_letter; do \
-	    rt check $$program > target/fuzz.log 2>&1 || { cat target/fuzz.log; exit 1; }; done
+	@sh tests/build.sh evening check_sheet check_letter
 	@sh tests/fuzz.sh
 
 bench:
-	@mkdir -p target && rt check evening > target/bench.log 2>&1 || { cat target/bench.log; exit 1; }
+	@sh tests/build.sh evening
 	@rustc --edition 2021 -O -o target/bench bench/bench.rs
 	@target/bench compare target/bin/evening

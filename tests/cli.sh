@@ -7,10 +7,7 @@ cd "$here/.."
 . tests/bytes.sh
 
 log=$(mktemp)
-if ! rt check evening > "$log" 2>&1; then
-    cat "$log"
-    exit 1
-fi
+sh tests/build.sh evening
 evening=$PWD/target/bin/evening
 got=$(mktemp)
 trap 'rm -f "$log" "$got"' EXIT
@@ -89,6 +86,10 @@ status=0
 "$evening" --help > "$got" < /dev/null || status=$?
 [ "$status" = 0 ] && grep -q 'evening < INPUT' "$got" || fail "--help"
 cases=$((cases + 1))
+status=0
+"$evening" --what > "$got" 2> "$log" < /dev/null || status=$?
+expect 1 "" "an unknown argument"
+grep -q -- '--what' "$log" || fail "an unknown argument is not said on standard error"
 
 # misused TEXT ARGUMENTS..: evening takes them for a mistake, and TEXT is on standard error
 misused() {
@@ -108,10 +109,7 @@ misused 'more' --out "$log.none" more
 [ ! -e "$log.none" ] || fail "a wrong command makes its directory"
 
 # check_sheet
-if ! rt check check_sheet > "$log" 2>&1; then
-    cat "$log"
-    exit 1
-fi
+sh tests/build.sh check_sheet
 check_sheet=$PWD/target/bin/check_sheet
 files=$(mktemp -d)
 trap 'rm -rf "$log" "$got" "$files"' EXIT
@@ -213,10 +211,7 @@ expect 1 "refused 9 at 1" "an evening that does not open"
 [ ! -e "$files/closed" ] || fail "an evening that does not open makes its directory"
 
 # the checkers on these files
-if ! rt check check_letter > "$log" 2>&1; then
-    cat "$log"
-    exit 1
-fi
+sh tests/build.sh check_letter
 check_letter=$PWD/target/bin/check_letter
 
 # changed FILE PLACE BYTE: FILE with another byte at PLACE

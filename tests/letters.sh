@@ -8,10 +8,7 @@ cd "$here/.."
 letter=$(mktemp)
 got=$(mktemp)
 trap 'rm -f "$letter" "$got"' EXIT
-if ! rt check check_letter > "$got" 2>&1; then
-    cat "$got"
-    exit 1
-fi
+sh tests/build.sh check_letter
 check_letter=$PWD/target/bin/check_letter
 cases=0
 
