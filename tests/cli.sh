@@ -98,14 +98,14 @@ misused() {
     status=0
     "$evening" "$@" > "$got" 2> "$log" < crates/evening/stdin || status=$?
     expect 1 "" "evening $*"
-    grep -q -- "^evening: $text is not how it is used" "$log" || fail "evening $*: '$text' is not said"
+    grep -q -- "^evening: $text; evening --help says how it is used" "$log" || fail "evening $*: '$text' is not said"
 }
 
-misused '--what' --what
-misused '--what' --what --out "$log.none"
-misused '--out without a directory' --out
-misused '--out with an empty name' --out ''
-misused 'more' --out "$log.none" more
+misused 'unknown argument --what' --what
+misused 'unknown argument --what' --what --out "$log.none"
+misused 'no directory after --out' --out
+misused 'an empty name after --out' --out ''
+misused 'unknown argument more' --out "$log.none" more
 [ ! -e "$log.none" ] || fail "a wrong command makes its directory"
 
 # check_sheet

@@ -1,8 +1,8 @@
 // Checks a letter: whether each of its lines says what follows from its own numbers.
 #![tactic(auto)]
 
-use anyhow::anyhow;
 use letter::check;
+use std::process::ExitCode;
 use std::{env, fs};
 
 const USAGE: &str = "check_letter: checks a member's letter
@@ -16,36 +16,36 @@ The status is 0, or 1 where the letter is refused or can't be read, or the comma
 ";
 
 // Checks the letter in a file, and prints what is found.
-fn judge(rt: &HostRuntime, path: &str) -> anyhow::Result<()> {
+fn judge(rt: &HostRuntime, path: &str) -> anyhow::Result<ExitCode> {
     let letter = match fs::read(rt, path) {
         Ok(letter) => letter,
         Err(e) => {
             eprintln!(rt; "check_letter: can't read {path}: {e}")?;
-            return Err(anyhow!("the letter can't be read"));
+            return Ok(ExitCode::FAILURE);
         }
     };
     match check(letter.as_slice()) {
         Ok(()) => {
             println!(rt; "accepted")?;
-            Ok(())
+            Ok(ExitCode::SUCCESS)
         }
         Err(refusal) => {
             println!(rt; "refused {} at {}", refusal.number(), refusal.place())?;
-            Err(anyhow!("the letter is refused"))
+            Ok(ExitCode::FAILURE)
         }
     }
 }
 
-fn main(rt: HostRuntime) -> anyhow::Result<()> {
+fn main(rt: HostRuntime) -> anyhow::Result<ExitCode> {
     let mut args = env::args(&rt)?;
     let _program = args.next();
     let (Some(path), None) = (args.next(), args.next()) else {
         eprintln!(rt; "check_letter: one file is wanted; check_letter --help says how it is used")?;
-        return Err(anyhow!("one file is wanted"));
+        return Ok(ExitCode::FAILURE);
     };
     if path.as_str() == "--help" {
         rt.print(USAGE)?;
-        return Ok(());
+        return Ok(ExitCode::SUCCESS);
     }
     judge(&rt, path.as_str())
 }

@@ -1,8 +1,8 @@
 // Checks a published sheet against the entries of its evening.
 #![tactic(auto)]
 
-use anyhow::anyhow;
 use sheet::check_file;
+use std::process::ExitCode;
 use std::{env, fs};
 
 const USAGE: &str = "check_sheet: checks a published sheet against the entries of its evening
@@ -17,40 +17,44 @@ of the sellers. The number 12 names a field that differs, by kind x 8 + field; 1
 early, or goes on; 9, 11, 13 and 7 what is wrong with ENTRIES. The status is 0 where the sheet is accepted, else 1.
 ";
 
-// The bytes of a file; where there are none to be had, that is said.
-fn read(rt: &HostRuntime, path: &str) -> anyhow::Result<Vec<u8>> {
+// The bytes of a file, if they can be read; where they can't, that is said.
+fn read(rt: &HostRuntime, path: &str) -> anyhow::Result<Option<Vec<u8>>> {
     match fs::read(rt, path) {
-        Ok(bytes) => Ok(bytes),
+        Ok(bytes) => Ok(Some(bytes)),
         Err(e) => {
             eprintln!(rt; "check_sheet: {path} can't be read: {e}")?;
-            Err(e.into())
+            Ok(None)
         }
     }
 }
 
-fn run(rt: &HostRuntime, entries: &str, sheet: &str) -> anyhow::Result<()> {
-    let entries = read(rt, entries)?;
-    let sheet = read(rt, sheet)?;
+fn run(rt: &HostRuntime, entries: &str, sheet: &str) -> anyhow::Result<ExitCode> {
+    let Some(entries) = read(rt, entries)? else {
+        return Ok(ExitCode::FAILURE);
+    };
+    let Some(sheet) = read(rt, sheet)? else {
+        return Ok(ExitCode::FAILURE);
+    };
     match check_file(rt.alloc(), entries.as_slice(), sheet.as_slice()) {
         Ok(()) => {
             println!(rt; "accepted")?;
-            Ok(())
+            Ok(ExitCode::SUCCESS)
         }
         Err(refusal) => {
             println!(rt; "refused {} at {}", refusal.number(), refusal.place())?;
-            Err(anyhow!("the sheet is not accepted"))
+            Ok(ExitCode::FAILURE)
         }
     }
 }
 
-fn misused(rt: &HostRuntime) -> anyhow::Result<()> {
+fn misused(rt: &HostRuntime) -> anyhow::Result<ExitCode> {
     eprintln!(rt;
         "check_sheet: takes a file of entries and a sheet; check_sheet --help says how it is used"
     )?;
-    Err(anyhow!("wrong arguments"))
+    Ok(ExitCode::FAILURE)
 }
 
-fn main(rt: HostRuntime) -> anyhow::Result<()> {
+fn main(rt: HostRuntime) -> anyhow::Result<ExitCode> {
     let mut args = env::args(&rt)?;
     let _program = args.next();
     let Some(entries) = args.next() else {
@@ -58,7 +62,7 @@ fn main(rt: HostRuntime) -> anyhow::Result<()> {
     };
     if entries.as_str() == "--help" {
         rt.print(USAGE)?;
-        return Ok(());
+        return Ok(ExitCode::SUCCESS);
     }
     let Some(sheet) = args.next() else {
         return misused(&rt);

@@ -6,7 +6,6 @@ mod files;
 mod memory;
 mod report;
 
-use anyhow::anyhow;
 use files::Files;
 use ledger::hold;
 use memory::Memory;
@@ -14,6 +13,7 @@ use orders::{Books, Input, Refusal};
 use report::Report;
 use std::alloc::AllocError;
 use std::io::Read;
+use std::process::ExitCode;
 use std::{env, io};
 
 const USAGE: &str = "evening: holds an evening of berths
@@ -89,6 +89,7 @@ fn run(rt: &HostRuntime, out: Option<&str>) -> Result<bool, Fault> {
     let bytes = read_all(rt)?;
     let input = Input::read(bytes.as_slice());
     let mut memory = Memory::for_input(heap, &input)?;
+    let mut report = Report::new(rt)?;
     let mut books = Books {
         entries: memory.entries.as_mut_slice(),
         numbers: memory.numbers.as_mut_slice(),
@@ -107,7 +108,6 @@ fn run(rt: &HostRuntime, out: Option<&str>) -> Result<bool, Fault> {
         memory.sellers.as_mut_slice(),
     )?;
     let sheet = &memory.sheet.as_slice()[0..closing.sheet.min(memory.sheet.len())];
-    let mut report = Report::new(rt)?;
     report.answers(memory.answers.as_slice())?;
     report.kinds(input.kinds, sheet)?;
     report.fund(closing.evening.fund)?;
@@ -129,24 +129,24 @@ fn run(rt: &HostRuntime, out: Option<&str>) -> Result<bool, Fault> {
 }
 
 // Holds an evening, and ends with the status that tells how it went.
-fn conclude(rt: &HostRuntime, out: Option<&str>) -> anyhow::Result<()> {
+fn conclude(rt: &HostRuntime, out: Option<&str>) -> anyhow::Result<ExitCode> {
     match run(rt, out) {
-        Ok(true) => Ok(()),
-        Ok(false) => Err(anyhow!("not all files were written")),
+        Ok(true) => Ok(ExitCode::SUCCESS),
+        Ok(false) => Ok(ExitCode::FAILURE),
         Err(Fault::Io(e)) => Err(e.into()),
         Err(Fault::Refused(refusal)) => {
             println!(rt; "refused {} at {}", refusal.number(), refusal.place())?;
-            Err(anyhow!("the evening does not open"))
+            Ok(ExitCode::FAILURE)
         }
     }
 }
 
-fn misused(rt: &HostRuntime, arg: &str) -> anyhow::Result<()> {
-    eprintln!(rt; "evening: {arg} is not how it is used; evening --help says how it is")?;
-    Err(anyhow!("wrong arguments"))
+fn misused(rt: &HostRuntime, mistake: &str, arg: &str) -> anyhow::Result<ExitCode> {
+    eprintln!(rt; "evening: {mistake} {arg}; evening --help says how it is used")?;
+    Ok(ExitCode::FAILURE)
 }
 
-fn main(rt: HostRuntime) -> anyhow::Result<()> {
+fn main(rt: HostRuntime) -> anyhow::Result<ExitCode> {
     let mut args = env::args(&rt)?;
     let _program = args.next();
     let Some(option) = args.next() else {
@@ -154,19 +154,19 @@ fn main(rt: HostRuntime) -> anyhow::Result<()> {
     };
     if option.as_str() == "--help" {
         rt.print(USAGE)?;
-        return Ok(());
+        return Ok(ExitCode::SUCCESS);
     }
     if option.as_str() != "--out" {
-        return misused(&rt, option.as_str());
+        return misused(&rt, "unknown argument", option.as_str());
     }
     let Some(directory) = args.next() else {
-        return misused(&rt, "--out without a directory");
+        return misused(&rt, "no directory after", "--out");
     };
     if directory.is_empty() {
-        return misused(&rt, "--out with an empty name");
+        return misused(&rt, "an empty name after", "--out");
     }
     if let Some(extra) = args.next() {
-        return misused(&rt, extra.as_str());
+        return misused(&rt, "unknown argument", extra.as_str());
     }
     conclude(&rt, Some(directory.as_str()))
 }

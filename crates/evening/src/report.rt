@@ -1,6 +1,7 @@
 // What an evening prints.
 use orders::{HalfCents, Refusal};
 use sheet::{Row, Section};
+use std::alloc::AllocError;
 use std::io;
 use std::io::{BufWriter, Stdout, Write};
 
@@ -10,10 +11,9 @@ pub struct Report {
 }
 
 impl Report {
-    pub(crate) fn new(rt: &HostRuntime) -> io::Result<Report> {
-        Ok(Report {
-            out: BufWriter::new(rt.alloc(), rt.stdout())?,
-        })
+    pub(crate) fn new(rt: &HostRuntime) -> Result<Report, AllocError> {
+        let out = BufWriter::new(rt.alloc(), rt.stdout()).map_err(|_| AllocError)?;
+        Ok(Report { out })
     }
 
     // The refused messages, by their places in the input.
