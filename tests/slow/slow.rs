@@ -1,7 +1,7 @@
 //! Compares the built programs with a search in plain Rust: `slow PROGRAMS COUNT DIR` holds all small evenings of one kind,
-//! the largest of all, and COUNT random ones, by the search and by `evening --out`, and compares what is printed, the status, and each byte of
-//! each file. The checkers must accept the files of all small evenings and of one in CHECKED of the random ones. DIR is for
-//! the files meanwhile.
+//! the largest of all, and COUNT random ones, by the search and by `evening`, with `--out` and without, and compares what is
+//! printed, the status, and each byte of each file. The checkers must accept the files of all small evenings and of one in
+//! CHECKED of the random ones. DIR is for the files meanwhile.
 
 mod dice;
 mod search;
@@ -9,6 +9,7 @@ mod search;
 use dice::{draw, Dice};
 use search::{hold, Files, Held};
 use std::fs;
+use std::io::Write as _;
 use std::path::{Path, PathBuf};
 use std::process::{exit, Command, Stdio};
 
@@ -68,6 +69,23 @@ struct Programs {
 }
 
 impl Programs {
+    /// What `evening` prints of an input that comes through a pipe, and whether it ends well.
+    fn print(&self, input: &[u8]) -> (String, bool) {
+        let mut child = Command::new(self.programs.join("evening"))
+            .stdin(Stdio::piped())
+            .stdout(Stdio::piped())
+            .stderr(Stdio::null())
+            .spawn()
+            .expect("evening can be run");
+        let mut stdin = child.stdin.take().expect("its input is a pipe");
+        let bytes = input.to_vec();
+        let writer = std::thread::spawn(move || stdin.write_all(&bytes));
+        let done = child.wait_with_output().expect("evening ends");
+        // what it leaves unread can't be written
+        let _ = writer.join();
+        (String::from_utf8_lossy(&done.stdout).into_owned(), done.status.success())
+    }
+
     /// What `evening --out` makes of an input. The files are left in `out`.
     fn hold(&self, input: &[u8]) -> Held {
         let (file, out) = (self.dir.join("input"), self.out());
@@ -126,11 +144,15 @@ struct Counts {
 }
 
 impl Counts {
-    /// Holds an evening in both ways, and says what differs.
+    /// Holds an evening by the search and by `evening`, with files and without, and says what differs.
     fn compare(&mut self, programs: &Programs, input: &[u8], checked: bool) -> Result<(), String> {
         let (wanted, got) = (hold(input), programs.hold(input));
         if wanted.printed != got.printed || wanted.opened != got.opened {
             return Err(format!("wanted {}:\n{}got {}:\n{}", wanted.opened, wanted.printed, got.opened, got.printed));
+        }
+        let alone = programs.print(input);
+        if alone != (got.printed, got.opened) {
+            return Err(format!("without --out {}:\n{}", alone.1, alone.0));
         }
         if !wanted.files.keys().eq(got.files.keys()) {
             return Err(format!("wanted files {:?}\ngot {:?}", wanted.files.keys(), got.files.keys()));

@@ -4,8 +4,8 @@ use Rattle.std.specs.List.{AllByRecursion, slice_get}
 use Rattle.std.proofs.lemmas.Option.{slice_get_read, slice_get_past}
 use Rattle.std.proofs.lemmas.Bool.{cases_eq, cond-true, cond-false, lt-ltb, le-ltb}
 use Rattle.ranking_wide.specs.declared.book.Book.{Book}
-use Rattle.ranking_wide.specs.declared.ranked.Side.{Side}
-use Rattle.ranking_wide.specs.declared.ranked.Ranked.{Ranked}
+use Rattle.ranking.specs.declared.ranked.Side.{Side}
+use Rattle.ranking.specs.declared.ranked.Ranked.{Ranked}
 use Rattle.ranking_wide.specs.Books.{listed, members, Ordered}
 use Rattle.ranking_wide.specs.Indexes.{book_list, book_members, book_counts, book_depth}
 use Rattle.ranking_wide.proofs.Answering.{ltb_suc}

@@ -6,14 +6,14 @@ use Rattle.std.proofs.lemmas.Nat.{div-add-mod', div_below, div-mul-add, mod_belo
 use Rattle.std.proofs.lemmas.List.Sums.{sum_by-cons}
 use Rattle.std.proofs.lemmas.Bool.{lt-ltb}
 use Rattle.std.proofs.lemmas.Bool.Decides.{nat_tests}
-use Rattle.ranking_wide.specs.declared.ranked.Side.{Side}
-use Rattle.ranking_wide.specs.declared.ranked.Side.TheVariants.{Buyers, Sellers}
-use Rattle.ranking_wide.specs.declared.ranked.Ranked.{Ranked}
+use Rattle.ranking.specs.declared.ranked.Side.{Side}
+use Rattle.ranking.specs.declared.ranked.Side.TheVariants.{Buyers, Sellers}
+use Rattle.ranking.specs.declared.ranked.Ranked.{Ranked}
 use Rattle.ranking_wide.specs.Keys.{key_of, ranked_of, worth}
 use Rattle.ranking_wide.specs.Books.{Ordered}
 use Rattle.ranking_wide.specs.Leaves.{Ascending, placed}
-use Rattle.ranking_wide.specs.Lists.{has, less}
-use Rattle.ranking_wide.specs.Ranks.{before, insert, own}
+use Rattle.ranking.specs.Lists.{has, less}
+use Rattle.ranking.specs.Ranks.{before, insert, own}
 
 pub worth_below : (s : Side) (c : ℕ) → c < 2 ^ 32 → worth s c < 2 ^ 32
 worth_below Buyers c p = omega arith

@@ -8,7 +8,7 @@ use native.Mathlib.Nat.{ℕ_set}
 use Rattle.std.specs.List.{AllByRecursion}
 use Rattle.orders.specs.declared.entry.Entry.{Entry}
 use Rattle.ranking_wide.specs.declared.leaf.Leaf.{Leaf}
-use Rattle.ranking_wide.specs.declared.ranked.Side.{Side}
+use Rattle.ranking.specs.declared.ranked.Side.{Side}
 use Rattle.ranking_wide.specs.declared.tree.Tree.{Tree}
 use Rattle.ranking_wide.specs.Leaves.{Ascending, Filled, from, part, Spans}
 use Rattle.ranking_wide.specs.Sound.{Kept, Sound}

@@ -9,16 +9,16 @@ use Rattle.std.proofs.lemmas.Bool.{cases_eq, cases_lt, cond-true, eq-eqb, lt-ltb
 use Rattle.orders.specs.declared.entry.Entry.{Entry}
 use Rattle.orders.specs.declared.entry.Entry.TheVariants.{Nothing, Bid, Ask}
 use Rattle.orders.specs.declared.money.Cents.{Cents}
-use Rattle.ranking_wide.specs.declared.ranked.Side.{Side}
-use Rattle.ranking_wide.specs.declared.ranked.Side.TheVariants.{Buyers, Sellers}
-use Rattle.ranking_wide.specs.declared.ranked.Ranked.{Ranked}
+use Rattle.ranking.specs.declared.ranked.Side.{Side}
+use Rattle.ranking.specs.declared.ranked.Side.TheVariants.{Buyers, Sellers}
+use Rattle.ranking.specs.declared.ranked.Ranked.{Ranked}
 use Rattle.ranking_wide.specs.declared.tree.Tree.{Tree}
 use Rattle.ranking_wide.specs.Books.{ranked_as, way}
 use Rattle.ranking_wide.specs.Keys.{ranked_of, worth}
 use Rattle.ranking_wide.specs.Leaves.{placed, without}
-use Rattle.ranking_wide.specs.Lists.{has, less}
-use Rattle.ranking_wide.specs.Ranks.{insert, on_side, own}
-use Rattle.ranking_wide.specs.Sides.{opposite}
+use Rattle.ranking.specs.Lists.{has, less}
+use Rattle.ranking.specs.Ranks.{insert, on_side, own}
+use Rattle.ranking.specs.Sides.{opposite}
 use Rattle.ranking_wide.specs.Sound.{entry_on, is_on, Kept, mark, mark_on, member_of, Sound, tree_of}
 use Rattle.ranking_wide.specs.Trees.{Grown, Held, keys_of, leaves_of, Roomy}
 use Rattle.ranking_wide.proofs.Ordering.{has_counted, map_kept, map_placed, same_key}

@@ -3,13 +3,13 @@ use Rattle.std.specs.Prelude.{◌≡◌, ℕ, Bool, true, not, ◌&&◌, ◌||�
 use Rattle.std.specs.List.{AllByRecursion}
 use Rattle.orders.specs.declared.money.Cents.{Cents}
 use Rattle.ranking_wide.specs.declared.book.Book.{Book}
-use Rattle.ranking_wide.specs.declared.ranked.Side.{Side}
-use Rattle.ranking_wide.specs.declared.ranked.Side.TheVariants.{Buyers, Sellers}
-use Rattle.ranking_wide.specs.declared.ranked.Ranked.{Ranked}
+use Rattle.ranking.specs.declared.ranked.Side.{Side}
+use Rattle.ranking.specs.declared.ranked.Side.TheVariants.{Buyers, Sellers}
+use Rattle.ranking.specs.declared.ranked.Ranked.{Ranked}
 use Rattle.ranking_wide.specs.declared.tree.Tree.{Tree}
 use Rattle.ranking_wide.specs.Keys.{ranked_of}
-use Rattle.ranking_wide.specs.Lists.{has}
-use Rattle.ranking_wide.specs.Ranks.{before, own}
+use Rattle.ranking.specs.Lists.{has}
+use Rattle.ranking.specs.Ranks.{before, own}
 use Rattle.ranking_wide.specs.Sound.{tree_of}
 use Rattle.ranking_wide.specs.Trees.{keys_of, leaves_of}
 

@@ -3,11 +3,11 @@ use Rattle.std.specs.Prelude.{ℕ, Bool, not, ◌&&◌, ◌||◌, List, [], Some
 use Rattle.std.specs.List.{slice_get}
 use Rattle.ranking_wide.specs.declared.book.Book.{Book}
 use Rattle.ranking_wide.specs.declared.index.Index.{Index}
-use Rattle.ranking_wide.specs.declared.ranked.Side.{Side}
-use Rattle.ranking_wide.specs.declared.ranked.Side.TheVariants.{Buyers, Sellers}
-use Rattle.ranking_wide.specs.declared.ranked.Ranked.{Ranked}
+use Rattle.ranking.specs.declared.ranked.Side.{Side}
+use Rattle.ranking.specs.declared.ranked.Side.TheVariants.{Buyers, Sellers}
+use Rattle.ranking.specs.declared.ranked.Ranked.{Ranked}
 use Rattle.ranking_wide.specs.Books.{counts, depth, listed, members}
-use Rattle.ranking_wide.specs.Lists.{has}
+use Rattle.ranking.specs.Lists.{has}
 
 unfoldable pub book_of : ℕ → Index → Option Book
 book_of k ix = slice_get (vec_items ix.books) k

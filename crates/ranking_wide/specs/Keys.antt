@@ -1,9 +1,9 @@
 -- A member with its number as one number, so that of two members of a side the one with the lower key comes first: the
 -- cents, counted from the best, times 65536, and the member.
 use Rattle.std.specs.Prelude.{ℕ, ◌+◌, ◌-◌, ◌*◌, ◌/◌, ◌%◌}
-use Rattle.ranking_wide.specs.declared.ranked.Side.{Side}
-use Rattle.ranking_wide.specs.declared.ranked.Side.TheVariants.{Buyers, Sellers}
-use Rattle.ranking_wide.specs.declared.ranked.Ranked.{Ranked}
+use Rattle.ranking.specs.declared.ranked.Side.{Side}
+use Rattle.ranking.specs.declared.ranked.Side.TheVariants.{Buyers, Sellers}
+use Rattle.ranking.specs.declared.ranked.Ranked.{Ranked}
 
 abbrev pub worth : Side → ℕ → ℕ
 worth Buyers c = 4294967295 - c

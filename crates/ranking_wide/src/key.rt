@@ -2,8 +2,8 @@
 ghost use Rattle.std.specs.Prelude.{◌≡◌, ℕ, ◌^◌, ◌<◌};
 ghost use Rattle.ranking_wide.specs.Keys.{key_of, ranked_of, worth};
 
-use crate::ranked::{Ranked, Side};
 use orders::Cents;
+use ranking::{Ranked, Side};
 
 // A number past every member: the cents of a key stand above its member.
 const MEMBERS: u64 = 0x1_0000;

@@ -1,20 +1,20 @@
 // What a book is asked, and how members go in and out.
 ghost use Rattle.std.specs.Prelude.{◌≡◌, ℕ, ◌+◌, ◌*◌, ◌^◌, ◌<◌, ◌≤◌, Bool, List, [], length, IfOk, if◌then◌else◌, count_by, ◌≢◌};
 ghost use Rattle.ranking_wide.specs.Books.{counts, depth, fresh, listed, members, Ordered, ranked_as};
-ghost use Rattle.ranking_wide.specs.declared.ranked.Side.{Side as OneSide};
+ghost use Rattle.ranking.specs.declared.ranked.Side.{Side as OneSide};
 ghost use Rattle.ranking_wide.specs.Leaves.{placed, without};
-ghost use Rattle.ranking_wide.specs.Lists.{has, less};
-ghost use Rattle.ranking_wide.specs.Ranks.{before, insert as inserted, on_side, own};
-ghost use Rattle.ranking_wide.specs.Sides.{opposite};
+ghost use Rattle.ranking.specs.Lists.{has, less};
+ghost use Rattle.ranking.specs.Ranks.{before, insert as inserted, on_side, own};
+ghost use Rattle.ranking.specs.Sides.{opposite};
 ghost use Rattle.ranking_wide.specs.Sound.{entry_on, tree_of};
 ghost use Rattle.ranking_wide.specs.Trees.{Grown, Held, keys_of, Roomy};
 ghost use Rattle.std.specs.List.{AllByRecursion, slice_get};
 
 use crate::book::Book;
 use crate::key::{key_of, ranked_of};
-use crate::ranked::{Ranked, Side};
 use crate::tree::Tree;
 use orders::{Cents, Entry};
+use ranking::{Ranked, Side};
 use std::alloc::{AllocError, Global};
 
 // The entry with which a member stands on a side.

@@ -1,17 +1,17 @@
 // What the index is asked, and how members go in and out.
 ghost use Rattle.std.specs.Prelude.{◌≡◌, ℕ, ◌+◌, ◌*◌, ◌^◌, ◌≤◌, [], length, IfOk, if◌then◌else◌, count_by, ◌≢◌, nat_lt};
 ghost use Rattle.ranking_wide.specs.Books.{Ordered, ranked_as};
-ghost use Rattle.ranking_wide.specs.declared.ranked.Side.{Side as OneSide};
+ghost use Rattle.ranking.specs.declared.ranked.Side.{Side as OneSide};
 ghost use Rattle.ranking_wide.specs.Indexes.{free, kind_counts, kind_depth, kind_list, kind_members};
-ghost use Rattle.ranking_wide.specs.Lists.{has, less};
-ghost use Rattle.ranking_wide.specs.Ranks.{before, insert as inserted, own};
-ghost use Rattle.ranking_wide.specs.Sides.{opposite};
+ghost use Rattle.ranking.specs.Lists.{has, less};
+ghost use Rattle.ranking.specs.Ranks.{before, insert as inserted, own};
+ghost use Rattle.ranking.specs.Sides.{opposite};
 ghost use Rattle.std.specs.List.{AllByRecursion, slice_get};
 
 use crate::book::Book;
 use crate::index::Index;
-use crate::ranked::{Ranked, Side};
 use orders::Cents;
+use ranking::{Ranked, Side};
 use std::alloc::{AllocError, Global};
 
 impl Index {

@@ -1,5 +1,5 @@
 use Rattle.std.proofs.Common.{ltb, map, length, vec_items, count_by, sym, ap, ◌∙◌, subst, arith}
-use Rattle.ranking_wide.specs.declared.ranked.Ranked.{Ranked}
+use Rattle.ranking.specs.declared.ranked.Ranked.{Ranked}
 use Rattle.ranking_wide.specs.declared.tree.Tree.{Tree}
 use Rattle.ranking_wide.specs.Books.{listed, tree}
 use Rattle.ranking_wide.specs.Keys.{ranked_of}
@@ -7,7 +7,7 @@ use Rattle.ranking_wide.specs.Sound.{tree_of}
 use Rattle.ranking_wide.specs.Trees.{Grown, keys_of}
 use Rattle.ranking_wide.proofs.Sounds.{sound_from}
 use Rattle.std.proofs.lemmas.List.Sums.{count_by-le-length}
-use Rattle.ranking_wide.specs.Ranks.{before, own}
+use Rattle.ranking.specs.Ranks.{before, own}
 use Rattle.ranking_wide.proofs.Ordering.{map_count}
 use Rattle.ranking_wide.proofs.Standing.{below_all, few_keys}
 use Rattle.ranking_wide.proofs.book.Book.count_before.Goals as goal

@@ -1,5 +1,5 @@
 use Rattle.std.proofs.Common.{◌≡◌, [], map, length, vec_items, ap, arith}
-use Rattle.ranking_wide.specs.declared.ranked.Side.TheVariants.{Buyers, Sellers}
+use Rattle.ranking.specs.declared.ranked.Side.TheVariants.{Buyers, Sellers}
 use Rattle.ranking_wide.specs.Books.{listed, members, tree}
 use Rattle.ranking_wide.specs.Keys.{ranked_of}
 use Rattle.ranking_wide.specs.Sound.{tree_of}

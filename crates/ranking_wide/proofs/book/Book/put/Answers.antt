@@ -1,5 +1,5 @@
 use Rattle.std.proofs.Common.{◌<◌, ◌||◌, map, length, get_or, set, vec_items, vec_len, sym, refl, ap, ◌∙◌, subst, arith}
-use Rattle.ranking_wide.specs.declared.ranked.Side.TheVariants.{Buyers, Sellers}
+use Rattle.ranking.specs.declared.ranked.Side.TheVariants.{Buyers, Sellers}
 use Rattle.ranking_wide.specs.declared.tree.Tree.{Tree}
 use Rattle.ranking_wide.specs.Books.{listed, members, tree}
 use Rattle.ranking_wide.specs.Keys.{ranked_of}
@@ -9,8 +9,8 @@ use Rattle.std.proofs.lemmas.List.{get_or_read}
 use Rattle.std.proofs.lemmas.Bool.{or_from}
 use Rattle.orders.specs.declared.entry.Entry.{Entry}
 use Rattle.orders.specs.declared.entry.Entry.TheVariants.{Nothing}
-use Rattle.ranking_wide.specs.Lists.{has}
-use Rattle.ranking_wide.specs.Sides.{opposite}
+use Rattle.ranking.specs.Lists.{has}
+use Rattle.ranking.specs.Sides.{opposite}
 use Rattle.ranking_wide.specs.Sound.{is_on, Sound}
 use Rattle.ranking_wide.proofs.Answering.{answer_fresh, answer_past, answer_there}
 use Rattle.ranking_wide.proofs.Standing.{has_on, listed_put, on_one, ready, sound_put}

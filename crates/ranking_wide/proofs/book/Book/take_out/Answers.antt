@@ -7,9 +7,9 @@ use Rattle.ranking_wide.specs.Trees.{keys_of}
 use Rattle.ranking_wide.proofs.Sounds.{sound_from}
 use Rattle.std.proofs.lemmas.List.{get_or_past, get_or_read}
 use Rattle.orders.specs.declared.entry.Entry.TheVariants.{Nothing}
-use Rattle.ranking_wide.specs.Sides.{opposite}
+use Rattle.ranking.specs.Sides.{opposite}
 use Rattle.ranking_wide.specs.Sound.{mark, mark_on}
-use Rattle.ranking_wide.specs.Ranks.{on_side}
+use Rattle.ranking.specs.Ranks.{on_side}
 use Rattle.ranking_wide.proofs.Standing.{has_on, listed_take, mark_nothing, off_list, sound_take, there_on}
 use Rattle.ranking_wide.proofs.book.Book.take_out.Goals as goal
 

@@ -1,6 +1,6 @@
 use Rattle.std.proofs.Common.{◌≡◌, subst}
 use Rattle.std.specs.List.{AllByRecursion}
-use Rattle.ranking_wide.specs.declared.ranked.Side.{Side}
+use Rattle.ranking.specs.declared.ranked.Side.{Side}
 use Rattle.ranking_wide.specs.Sound.{tree_of}
 use Rattle.ranking_wide.specs.Trees.{Grown, keys_of, Roomy}
 use Rattle.ranking_wide.proofs.book.methods.put_in.Goals as goal

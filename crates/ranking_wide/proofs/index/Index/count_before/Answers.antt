@@ -1,6 +1,6 @@
 use Rattle.std.proofs.Common.{vec_items, count_by, sym, ap, ◌∙◌}
 use Rattle.ranking_wide.specs.Indexes.{book_of, book_list}
-use Rattle.ranking_wide.specs.Ranks.{before, own}
+use Rattle.ranking.specs.Ranks.{before, own}
 use Rattle.ranking_wide.proofs.AllKinds.{book_there, book_past}
 use Rattle.ranking_wide.proofs.index.Index.count_before.Goals as goal
 

@@ -1,6 +1,6 @@
 use Rattle.std.proofs.Common.{◌≡◌, [], vec_items, vec_len}
 use Rattle.std.specs.List.{AllByRecursion}
-use Rattle.ranking_wide.specs.declared.ranked.Side.{Side}
+use Rattle.ranking.specs.declared.ranked.Side.{Side}
 use Rattle.ranking_wide.specs.Books.{listed, members}
 use Rattle.ranking_wide.proofs.index.Index.new.Given as goal
 

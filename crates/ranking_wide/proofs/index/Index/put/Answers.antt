@@ -1,10 +1,10 @@
 use Rattle.std.proofs.Common.{cond, not, ◌&&◌, ◌||◌, ltb, vec_items, sym, refl, ap, ◌∙◌, arith}
-use Rattle.ranking_wide.specs.declared.ranked.Side.TheVariants.{Buyers, Sellers}
+use Rattle.ranking.specs.declared.ranked.Side.TheVariants.{Buyers, Sellers}
 use Rattle.ranking_wide.specs.Books.{ranked_as}
 use Rattle.ranking_wide.specs.Indexes.{book_of, book_list, book_members}
-use Rattle.ranking_wide.specs.Lists.{has}
-use Rattle.ranking_wide.specs.Sides.{opposite}
-use Rattle.ranking_wide.specs.Ranks.{insert, own}
+use Rattle.ranking.specs.Lists.{has}
+use Rattle.ranking.specs.Sides.{opposite}
+use Rattle.ranking.specs.Ranks.{insert, own}
 use Rattle.ranking_wide.proofs.Answering.{answer_past}
 use Rattle.ranking_wide.proofs.AllKinds.{book_there, book_past, list_this, list_rest, members_rest}
 use Rattle.ranking_wide.proofs.index.Index.put.Goals as goal

@@ -1,7 +1,7 @@
 use Rattle.std.proofs.Common.{vec_items, sym, refl, ap, ◌∙◌}
 use Rattle.ranking_wide.specs.Indexes.{book_of, book_list}
-use Rattle.ranking_wide.specs.Lists.{has, less}
-use Rattle.ranking_wide.specs.Sides.{opposite}
+use Rattle.ranking.specs.Lists.{has, less}
+use Rattle.ranking.specs.Sides.{opposite}
 use Rattle.ranking_wide.proofs.AllKinds.{book_there, book_past, list_this, list_rest, members_rest}
 use Rattle.ranking_wide.proofs.index.Index.take_out.Goals as goal
 
