@@ -15,7 +15,7 @@ pub const MEMBERS: u16 = 9;
 pub struct Dice(pub u64);
 
 impl Dice {
-    pub fn roll(&mut self, below: u64) -> u64 {
+    pub(crate) fn roll(&mut self, below: u64) -> u64 {
         self.0 = self
             .0
             .wrapping_mul(6364136223846793005)
@@ -89,7 +89,7 @@ fn enter(dice: &mut Dice, index: &mut Index, kind: u8, entries: &mut Vec<u32>) -
     Ok(())
 }
 
-pub fn hold(heap: Global, dice: &mut Dice) -> Result<Evening, Fail> {
+pub(crate) fn hold(heap: Global, dice: &mut Dice) -> Result<Evening, Fail> {
     let mut index = Index::new(heap, KINDS, MEMBERS)?;
     let mut entries = Vec::new(heap);
     let mut sheet = vec![in heap; 0u8; 400]?;

@@ -90,7 +90,7 @@ fn no_pair(rt: HostRuntime) {
 
 // Numbers that no evening gives.
 #[test]
-fn impossible_numbers(rt: HostRuntime) {
+fn impossible_next_numbers(rt: HostRuntime) {
     // next numbers that are a pair; a next bid above the last; a next ask below the last
     assert!(rt;
         !line(
@@ -125,6 +125,10 @@ fn impossible_numbers(rt: HostRuntime) {
         )
         .follows()
     );
+}
+
+#[test]
+fn impossible_last_pairs(rt: HostRuntime) {
     // a last pair that is none, or half there
     assert!(rt;
         !line(
@@ -138,6 +142,10 @@ fn impossible_numbers(rt: HostRuntime) {
         .follows()
     );
     assert!(rt; !line(Side::Buyers, 9, None, pair(0, 8), pair(9, 0), Tie::NoTie).follows());
+}
+
+#[test]
+fn numbers_out_of_range(rt: HostRuntime) {
     // a number of no cents, or of too many
     assert!(rt; !line(Side::Sellers, 0, None, pair(0, 0), pair(0, 5), Tie::NoTie).follows());
     assert!(rt;
@@ -162,6 +170,10 @@ fn impossible_numbers(rt: HostRuntime) {
         )
         .follows()
     );
+}
+
+#[test]
+fn members_nowhere(rt: HostRuntime) {
     // a member that is nowhere: worse than the last pair, and no next number is there
     assert!(rt; !line(Side::Buyers, 5, None, pair(7, 5), pair(0, 0), Tie::NoTie).follows());
     assert!(rt; !line(Side::Buyers, 7, None, pair(7, 5), pair(6, 0), Tie::After).follows());
