@@ -30,7 +30,7 @@ fn judge(rt: &HostRuntime, path: &str) -> anyhow::Result<ExitCode> {
             Ok(ExitCode::SUCCESS)
         }
         Err(refusal) => {
-            println!(rt; "refused {} at {}", refusal.number(), refusal.place())?;
+            println!(rt; "{refusal}")?;
             Ok(ExitCode::FAILURE)
         }
     }

@@ -41,7 +41,7 @@ fn run(rt: &HostRuntime, entries: &str, sheet: &str) -> anyhow::Result<ExitCode>
             Ok(ExitCode::SUCCESS)
         }
         Err(refusal) => {
-            println!(rt; "refused {} at {}", refusal.number(), refusal.place())?;
+            println!(rt; "{refusal}")?;
             Ok(ExitCode::FAILURE)
         }
     }

@@ -9,11 +9,11 @@ use Rattle.ranking.specs.declared.ranked.Side.{Side}
 use Rattle.ranking.specs.declared.ranked.Side.TheVariants.{Buyers, Sellers}
 use Rattle.ranking.specs.declared.ranked.Ranked.{Ranked}
 use Rattle.ranking.specs.Ranks.{insert, on_side, ranked}
-use Rattle.clearing.specs.Rule.{cents_of, pairs, cleared, trades_in}
+use Rattle.clearing.specs.Rule.{cents_of, pairs, cleared, trades_in, price_of}
 use Rattle.clearing.specs.Kind.{Apart, outcome, number, standing, trades_with}
 use Rattle.clearing.proofs.Sides.{other, Good, Better, good_or_better, good_same}
 use Rattle.clearing.proofs.Critical.{Falling, Rising, Shifted, Case, Never, Critical, critical_price}
-use Rattle.clearing.proofs.Settling.{bids_of, asks_of, price, pairs_are, clears}
+use Rattle.clearing.proofs.Settling.{bids_of, asks_of, pairs_are, clears}
 use Rattle.clearing.proofs.Placing.{place, insert_put}
 use Rattle.clearing.proofs.Rows.{entry, stands, ranked_falls, fellows, partners, own_list, other_list, rank_is_place}
 
@@ -71,7 +71,7 @@ module _ (s : Side) (tie : ℕ → ℕ) (row : List Entry) (a : Apart tie row) (
         xs = xs w;
         p = pairs (bids_of s (xs w) ys) (asks_of s (xs w) ys);
         t = trades_in (cleared (bids_of s (xs w) ys) (asks_of s (xs w) ys));
-        π = price s (cleared (bids_of s (xs w) ys) (asks_of s (xs w) ys));
+        π = price_of s (cleared (bids_of s (xs w) ys) (asks_of s (xs w) ys));
         put = insert_put s tie (standing i w) (fellows s tie row a i l) (ranked_falls s tie (set row i Nothing));
         pairs = pairs_are s (xs w) ys;
         cleared = clears s (xs w) ys;
@@ -90,14 +90,14 @@ module _ (s : Side) (tie : ℕ → ℕ) (row : List Entry) (a : Apart tie row) (
       ∙ ap (λ n. ltb n (trades_in (outcome tie (set row i (entry s w))))) (rank_is_place s tie row a i l w)
       ∙ ap (λ o. ltb (place s tie (standing i w) (fellows s tie row a i l)) (trades_in o)) (outcome_is w)
 
-  price_is : (w : Cents) → price s (outcome tie (set row i (entry s w))) ≡ (case_of w).π
+  price_is : (w : Cents) → price_of s (outcome tie (set row i (entry s w))) ≡ (case_of w).π
   unfolding case_of
-  price_is w = ap (price s) (outcome_is w)
+  price_is w = ap (price_of s) (outcome_is w)
 
   abbrev CriticalAt : ℕ → Type 0
   CriticalAt θ = (w : Cents) →
       (trading s tie (set row i (entry s w)) i ≡ true →
-      (price s (outcome tie (set row i (entry s w))) ≡ θ) × Good s (2 * w.0) θ)
+      (price_of s (outcome tie (set row i (entry s w))) ≡ θ) × Good s (2 * w.0) θ)
       × (Better s (2 * w.0) θ → trading s tie (set row i (entry s w)) i ≡ true)
 
   from_case : (θ : ℕ) → Critical s cs ys θ → CriticalAt θ
@@ -121,8 +121,8 @@ module _ (s : Side) (tie : ℕ → ℕ) (row : List Entry) (a : Apart tie row) (
   -- a number other than one's own gains nothing
   pub true_number : (v w : Cents) → trading s tie (set row i (entry s w)) i ≡ true →
       ((trading s tie (set row i (entry s v)) i ≡ true)
-      × (price s (outcome tie (set row i (entry s v))) ≡ price s (outcome tie (set row i (entry s w)))))
-      ⊎ ((trading s tie (set row i (entry s v)) i ≡ false) × Good s (price s (outcome tie (set row i (entry s w)))) (2 * v.0))
+      × (price_of s (outcome tie (set row i (entry s v))) ≡ price_of s (outcome tie (set row i (entry s w)))))
+      ⊎ ((trading s tie (set row i (entry s v)) i ≡ false) × Good s (price_of s (outcome tie (set row i (entry s w)))) (2 * v.0))
   true_number v w t =
       elim critical_in_row [
         | inl h ↦ absurd (both_ways _ (h w) t)
@@ -138,7 +138,7 @@ module _ (s : Side) (tie : ℕ → ℕ) (row : List Entry) (a : Apart tie row) (
       ]
 
   pub no_loss_with : (v : Cents) → trading s tie (set row i (entry s v)) i ≡ true →
-      Good s (2 * v.0) (price s (outcome tie (set row i (entry s v))))
+      Good s (2 * v.0) (price_of s (outcome tie (set row i (entry s v))))
   no_loss_with v t =
       elim critical_in_row [
         | inl h ↦ absurd (both_ways _ (h v) t)
@@ -147,6 +147,6 @@ module _ (s : Side) (tie : ℕ → ℕ) (row : List Entry) (a : Apart tie row) (
 
   pub price_not_own_with : (v w : Cents) → trading s tie (set row i (entry s v)) i ≡ true →
       trading s tie (set row i (entry s w)) i ≡ true →
-      price s (outcome tie (set row i (entry s v))) ≡ price s (outcome tie (set row i (entry s w)))
+      price_of s (outcome tie (set row i (entry s v))) ≡ price_of s (outcome tie (set row i (entry s w)))
   price_not_own_with v w t u =
       elim (true_number v w u) [ inl h ↦ h.1 | inr h ↦ absurd (both_ways _ h.0 t) ]

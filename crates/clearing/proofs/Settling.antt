@@ -5,7 +5,7 @@ use Rattle.ranking.specs.declared.ranked.Side.{Side}
 use Rattle.ranking.specs.declared.ranked.Side.TheVariants.{Buyers, Sellers}
 use Rattle.clearing.specs.declared.outcome.Outcome.{Outcome}
 use Rattle.clearing.specs.declared.outcome.Outcome.TheVariants.{NoTrade}
-use Rattle.clearing.specs.Rule.{at_rank, pairs, serves, half_cents, all_but_last, settled, outcome_of, cleared, trades_in, buyers_pay, sellers_get}
+use Rattle.clearing.specs.Rule.{at_rank, pairs, serves, half_cents, all_but_last, settled, outcome_of, cleared, trades_in, buyers_pay, sellers_get, price_of}
 use Rattle.clearing.proofs.Pairing.{pairs_yes, pairs_no, pairs_no_bids, pairs_no_asks, middle_there, middle_missing}
 use Rattle.clearing.proofs.Sides.{other, good_same, good_turned}
 use Rattle.clearing.proofs.Critical.{Pairs, Serving, Cleared, none, one_price, two_prices}
@@ -18,10 +18,6 @@ bids_of Sellers own partner = partner
 abbrev pub asks_of : Side → List ℕ → List ℕ → List ℕ
 asks_of Buyers own partner = partner
 asks_of Sellers own partner = own
-
-abbrev pub price : Side → Outcome → ℕ
-price Buyers o = buyers_pay o
-price Sellers o = sellers_get o
 
 no_pairs : (bids asks : List ℕ) → (length bids ≡ 0) ⊎ (length asks ≡ 0) → Pairs Buyers bids asks 0
 no_pairs bids asks h =
@@ -135,7 +131,7 @@ serving_turned s own partner last v =
     }
 
 from_side : (s : Side) (own partner : List ℕ) (p : ℕ) (o : Outcome) →
-    Settled (bids_of s own partner) (asks_of s own partner) p o → Cleared s own partner p (trades_in o) (price s o)
+    Settled (bids_of s own partner) (asks_of s own partner) p o → Cleared s own partner p (trades_in o) (price_of s o)
 from_side Buyers own partner p o (no_pair e t _ _) = none e t
 from_side Buyers own partner p o (all_pairs last e v t b _) = one_price last e v t b
 from_side Buyers own partner p o (only_pair e v t _ _) = two_prices 0 e v t (λ l. absurd (omega arith))
@@ -151,5 +147,5 @@ from_side Sellers own partner p o (but_last last l e v t _ a) =
 pub clears : (s : Side) (own partner : List ℕ) →
     Cleared s own partner (pairs (bids_of s own partner) (asks_of s own partner))
     (trades_in (cleared (bids_of s own partner) (asks_of s own partner)))
-    (price s (cleared (bids_of s own partner) (asks_of s own partner)))
+    (price_of s (cleared (bids_of s own partner) (asks_of s own partner)))
 clears s own partner = from_side s own partner _ _ (settles (bids_of s own partner) (asks_of s own partner))

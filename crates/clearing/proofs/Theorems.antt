@@ -7,13 +7,12 @@ use Rattle.ranking.specs.declared.ranked.Side.{Side}
 use Rattle.ranking.specs.declared.ranked.Side.TheVariants.{Buyers, Sellers}
 use Rattle.ranking.specs.declared.ranked.Ranked.{Ranked}
 use Rattle.ranking.specs.Ranks.{own, insert, on_side, ranked_from, ranked}
-use Rattle.clearing.specs.Rule.{cents_of, pairs, cleared, trades_in}
+use Rattle.clearing.specs.Rule.{cents_of, pairs, cleared, trades_in, price_of}
 use Rattle.clearing.specs.Kind.{Apart, bids, asks, outcome, number, standing, rank, trades_with}
 use Rattle.clearing.specs.Matching.{Match}
 use Rattle.clearing.specs.Evenings.{row_with}
 use Rattle.clearing.specs.Statements.{TrueBids, TrueAsks, Promised, PromisedTo, CriticalBid, CriticalAsk, BidMovesNoPrice, AskMovesNoPrice, PaysAtMostBid, GetsAtLeastAsk, Ranks, HigherBidFirst, LowerAskFirst, TieRule, LowerMemberFirst, MoreMayGain, EveningsTold}
 use Rattle.clearing.proofs.Sides.{Good}
-use Rattle.clearing.proofs.Settling.{price}
 use Rattle.clearing.proofs.Rows.{entry}
 use Rattle.clearing.proofs.OwnNumber.{trading, critical_in_row, true_number, no_loss_with, price_not_own_with}
 use Rattle.clearing.proofs.Standing.{member_there, put_back, before_lower_rank, ranks_of}
@@ -41,18 +40,18 @@ ask_moves_no_price tie row a i l v w = price_not_own_with Sellers tie row a i l 
 
 -- as the row stands
 module _ (s : Side) (tie : ℕ → ℕ) (row : List Entry) (a : Apart tie row) (i : ℕ) (v : Cents) (h : number s row i ≡ Some v) where
-  no_loss_of : trading s tie row i ≡ true → Good s (2 * v.0) (price s (outcome tie row))
+  no_loss_of : trading s tie row i ≡ true → Good s (2 * v.0) (price_of s (outcome tie row))
   no_loss_of t =
-      subst (λ r. Good s (2 * v.0) (price s (outcome tie r))) (put_back s row i v h)
+      subst (λ r. Good s (2 * v.0) (price_of s (outcome tie r))) (put_back s row i v h)
       (no_loss_with s tie row a i (member_there s row i v h) v
       (subst (λ r. trading s tie r i ≡ true) (sym (put_back s row i v h)) t))
 
   true_number_of : (w : Cents) → trading s tie (set row i (entry s w)) i ≡ true →
-      ((trading s tie row i ≡ true) × (price s (outcome tie row) ≡ price s (outcome tie (set row i (entry s w)))))
-      ⊎ ((trading s tie row i ≡ false) × Good s (price s (outcome tie (set row i (entry s w)))) (2 * v.0))
+      ((trading s tie row i ≡ true) × (price_of s (outcome tie row) ≡ price_of s (outcome tie (set row i (entry s w)))))
+      ⊎ ((trading s tie row i ≡ false) × Good s (price_of s (outcome tie (set row i (entry s w)))) (2 * v.0))
   true_number_of w t =
-      subst (λ r. ((trading s tie r i ≡ true) × (price s (outcome tie r) ≡ price s (outcome tie (set row i (entry s w)))))
-      ⊎ ((trading s tie r i ≡ false) × Good s (price s (outcome tie (set row i (entry s w)))) (2 * v.0)))
+      subst (λ r. ((trading s tie r i ≡ true) × (price_of s (outcome tie r) ≡ price_of s (outcome tie (set row i (entry s w)))))
+      ⊎ ((trading s tie r i ≡ false) × Good s (price_of s (outcome tie (set row i (entry s w)))) (2 * v.0)))
       (put_back s row i v h) (true_number s tie row a i (member_there s row i v h) v w t)
 
   -- who trades, by its rank
@@ -61,16 +60,16 @@ module _ (s : Side) (tie : ℕ → ℕ) (row : List Entry) (a : Apart tie row) (
 
   by_rank : (w : Cents) → trading s tie (set row i (entry s w)) i ≡ true →
       ((rank s tie row (standing i v) < trades_in (outcome tie row))
-      × (price s (outcome tie row) ≡ price s (outcome tie (set row i (entry s w)))))
+      × (price_of s (outcome tie row) ≡ price_of s (outcome tie (set row i (entry s w)))))
       ⊎ ((trades_in (outcome tie row) ≤ rank s tie row (standing i v))
-      × Good s (price s (outcome tie (set row i (entry s w)))) (2 * v.0))
+      × Good s (price_of s (outcome tie (set row i (entry s w)))) (2 * v.0))
   by_rank w t =
       elim (true_number_of w t) [
         | inl u ↦ inl (ltb-true _ _ (sym trading_by_rank ∙ u.0), u.1)
         | inr u ↦ inr (ltb-false _ _ (sym trading_by_rank ∙ u.0), u.1)
       ]
 
-  no_loss_by_rank : rank s tie row (standing i v) < trades_in (outcome tie row) → Good s (2 * v.0) (price s (outcome tie row))
+  no_loss_by_rank : rank s tie row (standing i v) < trades_in (outcome tie row) → Good s (2 * v.0) (price_of s (outcome tie row))
   no_loss_by_rank l = no_loss_of (trading_by_rank ∙ lt-ltb _ _ l)
 
 pub pays_at_most_bid : PaysAtMostBid

@@ -5,6 +5,8 @@
 -- 0. Bids and asks are in cents and prices in half cents, so that half a sum of cents is that sum in half cents.
 use Rattle.std.specs.Prelude.{ℕ, zero, suc, ◌+◌, ◌-◌, ◌*◌, ◌^◌, Bool, cond, ◌&&◌, List, [], ◌∷◌, map, length, Some, None, Option, ◌==◌, nat_le, nat_lt, slice_index}
 use Rattle.orders.specs.declared.money.HalfCents.{HalfCents}
+use Rattle.ranking.specs.declared.ranked.Side.{Side}
+use Rattle.ranking.specs.declared.ranked.Side.TheVariants.{Buyers, Sellers}
 use Rattle.ranking.specs.declared.ranked.Ranked.{Ranked}
 use Rattle.clearing.specs.declared.outcome.Outcome.{Outcome}
 use Rattle.clearing.specs.declared.outcome.Outcome.TheVariants.{NoTrade, OnePrice, TwoPrices}
@@ -69,6 +71,11 @@ abbrev pub sellers_get : Outcome → ℕ
 sellers_get NoTrade = 0
 sellers_get (OnePrice n price) = price.0
 sellers_get (TwoPrices n bid ask) = ask.0
+
+-- what each member of a side who trades pays or gets
+abbrev pub price_of : Side → Outcome → ℕ
+price_of Buyers o = buyers_pay o
+price_of Sellers o = sellers_get o
 
 abbrev pub fund_gets : Outcome → ℕ
 fund_gets o = trades_in o * (buyers_pay o - sellers_get o)

@@ -1,10 +1,11 @@
 // A kind's outcome, and the numbers in it.
 ghost use Rattle.std.specs.Prelude.{◌≡◌};
-ghost use Rattle.clearing.specs.Rule.{trades_in, buyers_pay, sellers_get, fund_gets, fitting};
+ghost use Rattle.clearing.specs.Rule.{trades_in, price_of, fund_gets, fitting};
 
 use orders::HalfCents;
+use ranking::Side;
 
-#[derive(Clone, Copy)]
+#[derive(Clone, Copy, Debug, PartialEq, Eq)]
 pub enum Outcome {
     NoTrade,
     OnePrice {
@@ -24,30 +25,19 @@ impl Outcome {
     {
         match self {
             Outcome::NoTrade => 0,
-            Outcome::OnePrice { trades, .. } => trades,
-            Outcome::TwoPrices { trades, .. } => trades,
+            Outcome::OnePrice { trades, .. } | Outcome::TwoPrices { trades, .. } => trades,
         }
     }
 
-    // What each buyer who trades pays; 0 where nobody does.
-    pub fn buyers_price(self) -> HalfCents
-        ensures { result.0 ≡ buyers_pay self }
+    // What each buyer who trades pays, or each seller gets; 0 where nobody does.
+    pub fn price(self, side: Side) -> HalfCents
+        ensures { result.0 ≡ price_of side self }
     {
-        match self {
-            Outcome::NoTrade => HalfCents(0),
-            Outcome::OnePrice { price, .. } => price,
-            Outcome::TwoPrices { buyers, .. } => buyers,
-        }
-    }
-
-    // What each seller who trades gets; 0 where nobody does.
-    pub fn sellers_price(self) -> HalfCents
-        ensures { result.0 ≡ sellers_get self }
-    {
-        match self {
-            Outcome::NoTrade => HalfCents(0),
-            Outcome::OnePrice { price, .. } => price,
-            Outcome::TwoPrices { sellers, .. } => sellers,
+        match (self, side) {
+            (Outcome::NoTrade, _) => HalfCents(0),
+            (Outcome::OnePrice { price, .. }, _) => price,
+            (Outcome::TwoPrices { buyers, .. }, Side::Buyers) => buyers,
+            (Outcome::TwoPrices { sellers, .. }, Side::Sellers) => sellers,
         }
     }
 
@@ -55,12 +45,9 @@ impl Outcome {
     pub fn fund(self) -> Option<HalfCents>
         ensures { result ≡ fitting (fund_gets self) }
     {
-        let HalfCents(paid) = self.buyers_price();
-        let HalfCents(got) = self.sellers_price();
+        let HalfCents(paid) = self.price(Side::Buyers);
+        let HalfCents(got) = self.price(Side::Sellers);
         let takings = self.trades() as u128 * u128::from(paid.saturating_sub(got));
-        if takings > u128::from(u64::MAX) {
-            return None;
-        }
-        Some(HalfCents(takings as u64))
+        u64::try_from(takings).ok().map(HalfCents)
     }
 }

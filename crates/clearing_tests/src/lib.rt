@@ -5,7 +5,7 @@
 mod tests {
     use clearing::{clear, count_pairs};
     use orders::{Cents, HalfCents};
-    use ranking::Ranked;
+    use ranking::{Ranked, Side};
     use std::test::Fail;
 
     fn at(member: u16, cents: u32) -> Ranked {
@@ -23,8 +23,8 @@ mod tests {
         assert_eq!(rt; count_pairs(&buyers, &sellers), 3);
         let outcome = clear(&buyers, &sellers);
         assert_eq!(rt; outcome.trades(), 3);
-        assert_eq!(rt; outcome.buyers_price().0, 12);
-        assert_eq!(rt; outcome.sellers_price().0, 12);
+        assert_eq!(rt; outcome.price(Side::Buyers).0, 12);
+        assert_eq!(rt; outcome.price(Side::Sellers).0, 12);
         let HalfCents(takings) = outcome.fund().ok_or("the fund's takings pass 64 bits")?;
         assert_eq!(rt; takings, 0);
         Ok(())

@@ -1,23 +1,17 @@
 // The files of an evening: what each member has after it, and from what everybody can check it: its entries, its sheet, and a
 // letter for each member with an entry.
-use letter::Published;
+use letter::{Line, Published};
+use orders::Extent;
 use sheet::entries_file;
 use std::alloc::AllocError;
 use std::{fs, io};
 
-// The most that a letter takes: three bytes, and 28 for each kind.
-const LETTER: usize = 3 + 28 * 64;
-
-// The bytes of a letter of no entry.
-const NO_LINE: usize = 3;
+// The most that a letter takes.
+const LETTER: usize = Line::HEAD + Line::BYTES * Extent::KINDS_MOST as usize;
 
 #[derive(Clone, Copy)]
 pub struct Files<'a> {
     pub directory: &'a str,
-    pub kinds: u8,
-    pub members: u16,
-    pub entries: &'a [u32],
-    pub sheet: &'a [u8],
     // after closing
     pub accounts: &'a [u64],
     pub berths: &'a [u8],
@@ -25,18 +19,23 @@ pub struct Files<'a> {
 
 impl Files<'_> {
     // Writes them all, and says which can't be written. Answers whether all are.
-    pub(crate) fn write(self, rt: &HostRuntime) -> io::Result<bool> {
+    pub(crate) fn write(self, rt: &HostRuntime, published: Published<'_>) -> io::Result<bool> {
         if let Err(e) = fs::create_dir_all(rt, self.directory) {
             eprintln!(rt; "evening: {} can't be made: {e}", self.directory)?;
             return Ok(false);
         }
-        let entries = entries_file(rt.alloc(), self.kinds, self.members, self.entries)?;
+        let Published {
+            extent,
+            entries,
+            sheet,
+        } = published;
+        let entries = entries_file(rt.alloc(), extent, entries)?;
         let mut all = self.put(rt, "entries.bin", entries.as_slice())?;
-        all = self.put(rt, "sheet.bin", self.sheet)? && all;
+        all = self.put(rt, "sheet.bin", sheet)? && all;
         let accounts = self.account_bytes(rt)?;
         all = self.put(rt, "accounts.bin", accounts.as_slice())? && all;
         all = self.put(rt, "berths.bin", self.berths)? && all;
-        Ok(self.letters(rt)? && all)
+        Ok(self.letters(rt, published)? && all)
     }
 
     // Each account in half cents, eight bytes, the lowest first.
@@ -48,18 +47,12 @@ impl Files<'_> {
         Ok(bytes)
     }
 
-    fn letters(self, rt: &HostRuntime) -> io::Result<bool> {
+    fn letters(self, rt: &HostRuntime, published: Published<'_>) -> io::Result<bool> {
         let mut all = true;
         let mut letter = vec![in rt.alloc(); 0u8; LETTER]?;
-        let published = Published {
-            kinds: self.kinds,
-            members: self.members,
-            entries: self.entries,
-            sheet: self.sheet,
-        };
-        for member in 0..self.members {
+        for member in 0..published.extent.members {
             match published.write_letter(member, letter.as_mut_slice()) {
-                Ok(size) if size > NO_LINE => {
+                Ok(size) if size > Line::HEAD => {
                     let name = format!(in rt.alloc(); "letter-{member}.bin")?;
                     all = self.put(
                         rt,

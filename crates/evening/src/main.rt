@@ -7,7 +7,8 @@ mod memory;
 mod report;
 
 use files::Files;
-use ledger::hold;
+use ledger::{Space, hold};
+use letter::Published;
 use memory::Memory;
 use orders::{Books, Input, Refusal};
 use report::Report;
@@ -15,6 +16,7 @@ use std::alloc::AllocError;
 use std::io::Read;
 use std::process::ExitCode;
 use std::{env, io};
+use thiserror::Error;
 
 const USAGE: &str = "evening: holds an evening of berths
 
@@ -33,54 +35,29 @@ command is wrong.
 const ROOM: usize = 0x10_0000;
 
 // Why an evening was not held to its end.
+#[derive(Debug, Drop, Error)]
 enum Fault {
-    Refused(Refusal),
-    Io(io::Error),
+    #[error("{0}")]
+    Refused(#[from] Refusal),
+    #[error("{0}")]
+    Io(#[from] io::Error),
 }
 
-impl From<io::Error> for Fault {
-    fn from(e: io::Error) -> Fault {
-        Fault::Io(e)
-    }
-}
-
+// A want of memory is a refusal like any other.
 impl From<AllocError> for Fault {
-    fn from(_e: AllocError) -> Fault {
-        Fault::Refused(Refusal::Memory)
+    fn from(e: AllocError) -> Fault {
+        Fault::Refused(e.into())
     }
 }
 
-impl From<Refusal> for Fault {
-    fn from(refusal: Refusal) -> Fault {
-        Fault::Refused(refusal)
-    }
-}
-
-// Reads some of standard input into memory, from a place on.
-fn read_from(rt: &HostRuntime, memory: &mut [u8], start: usize) -> io::Result<usize> {
-    if start >= memory.len() {
-        return Ok(0);
-    }
-    rt.stdin().read(&mut memory[start..])
-}
-
-// Reads standard input to its end, into memory that doubles.
+// Reads standard input to its end.
 fn read_all(rt: &HostRuntime) -> Result<Vec<u8>, Fault> {
-    let mut bytes = vec![in rt.alloc(); 0u8; ROOM]?;
-    let mut end = 0;
-    for _ in 0..u64::MAX {
-        if end == bytes.len() {
-            bytes.resize(end.saturating_mul(2), 0)?;
-        }
-        match read_from(rt, bytes.as_mut_slice(), end) {
-            Ok(0) => break,
-            Ok(count) => end = end.saturating_add(count),
-            Err(e) if e.kind() == io::ErrorKind::Interrupted => {}
-            Err(e) => return Err(Fault::Io(e)),
-        }
+    let mut bytes = Vec::with_capacity(rt.alloc(), ROOM)?;
+    match rt.stdin().read_to_end(&mut bytes) {
+        Ok(_) => Ok(bytes),
+        Err(e) if e.kind() == io::ErrorKind::OutOfMemory => Err(AllocError.into()),
+        Err(e) => Err(e.into()),
     }
-    bytes.truncate(end);
-    Ok(bytes)
 }
 
 // Holds the evening, prints it, and writes its files, if there is a directory for them. Answers whether all was written.
@@ -97,35 +74,37 @@ fn run(rt: &HostRuntime, out: Option<&str>) -> Result<bool, Fault> {
         accounts: memory.accounts.as_mut_slice(),
         berths: memory.berths.as_mut_slice(),
     };
+    let mut space = Space {
+        sheet: memory.sheet.as_mut_slice(),
+        buyers: memory.buyers.as_mut_slice(),
+        sellers: memory.sellers.as_mut_slice(),
+    };
     let closing = hold(
         heap,
         &input,
         &mut books,
         memory.answers.as_mut_slice(),
         memory.standing.as_mut_slice(),
-        memory.sheet.as_mut_slice(),
-        memory.buyers.as_mut_slice(),
-        memory.sellers.as_mut_slice(),
+        &mut space,
     )?;
     let sheet = &memory.sheet.as_slice()[0..closing.sheet.min(memory.sheet.len())];
     report.answers(memory.answers.as_slice())?;
-    report.kinds(input.kinds, sheet)?;
+    report.kinds(input.extent.kinds, sheet)?;
     report.fund(closing.evening.fund)?;
-    match out {
-        None => Ok(true),
-        Some(directory) => {
-            let files = Files {
-                directory,
-                kinds: input.kinds,
-                members: input.members,
-                entries: memory.standing.as_slice(),
-                sheet,
-                accounts: memory.accounts.as_slice(),
-                berths: memory.berths.as_slice(),
-            };
-            Ok(files.write(rt)?)
-        }
-    }
+    let Some(directory) = out else {
+        return Ok(true);
+    };
+    let published = Published {
+        extent: input.extent,
+        entries: memory.standing.as_slice(),
+        sheet,
+    };
+    let files = Files {
+        directory,
+        accounts: memory.accounts.as_slice(),
+        berths: memory.berths.as_slice(),
+    };
+    Ok(files.write(rt, published)?)
 }
 
 // Holds an evening, and ends with the status that tells how it went.
@@ -135,7 +114,7 @@ fn conclude(rt: &HostRuntime, out: Option<&str>) -> anyhow::Result<ExitCode> {
         Ok(false) => Ok(ExitCode::FAILURE),
         Err(Fault::Io(e)) => Err(e.into()),
         Err(Fault::Refused(refusal)) => {
-            println!(rt; "refused {} at {}", refusal.number(), refusal.place())?;
+            println!(rt; "{refusal}")?;
             Ok(ExitCode::FAILURE)
         }
     }

@@ -1,7 +1,7 @@
 // All the memory of an evening, got before it opens.
 ghost use Rattle.std.specs.Prelude.{◌≤◌};
 
-use orders::{Cents, Input, Refusal};
+use orders::{Extent, Input, Refusal};
 use ranking::Ranked;
 use std::alloc::{AllocError, Global};
 
@@ -21,12 +21,10 @@ pub struct Memory {
 
 impl Memory {
     pub(crate) fn for_input(heap: Global, input: &Input) -> Result<Memory, AllocError> {
-        let (kinds, members) = Memory::extent(input);
-        let slots = kinds * members;
-        let nobody = Ranked {
-            member: 0,
-            cents: Cents(0),
-        };
+        let extent = Memory::extent(input);
+        let slots = extent.slots();
+        let members = usize::from(extent.members);
+        let nobody = Ranked::default();
         Ok(Memory {
             entries: vec![in heap; 0u32; slots]?,
             numbers: vec![in heap; 0u32; members]?,
@@ -35,19 +33,22 @@ impl Memory {
             berths: input.berths.to_vec(heap)?,
             answers: vec![in heap; Ok(()); input.messages.len().div_ceil(12)]?,
             standing: vec![in heap; 0u32; slots]?,
-            sheet: vec![in heap; 0u8; kinds * (16 + 6 * members)]?,
+            sheet: vec![in heap; 0u8; usize::from(extent.kinds) * (16 + 6 * members)]?,
             buyers: vec![in heap; nobody; members]?,
             sellers: vec![in heap; nobody; members]?,
         })
     }
 
     // For how many kinds and members memory is wanted: for none where the opening refuses so many.
-    fn extent(input: &Input) -> (usize, usize)
-        ensures { (result.0 ≤ 64) × (result.1 ≤ 2000) }
+    fn extent(input: &Input) -> Extent
+        ensures { (result.kinds ≤ 64) × (result.members ≤ 2000) }
     {
-        if input.kinds > 64 || input.members > 2000 {
-            return (0, 0);
+        match input.extent.check() {
+            Ok(()) => input.extent,
+            Err(_) => Extent {
+                kinds: 0,
+                members: 0,
+            },
         }
-        (usize::from(input.kinds), usize::from(input.members))
     }
 }

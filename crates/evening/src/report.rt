@@ -20,12 +20,7 @@ impl Report {
     pub(crate) fn answers(&mut self, answers: &[Result<(), Refusal>]) -> io::Result<()> {
         for (i, answer) in answers.iter().enumerate() {
             if let Err(refusal) = answer {
-                writeln!(
-                    self.out,
-                    "message {i} refused {} at {}",
-                    refusal.number(),
-                    refusal.place()
-                )?;
+                writeln!(self.out, "message {i} {refusal}")?;
             }
         }
         Ok(())
@@ -66,11 +61,9 @@ impl Report {
     // Those of a side who trade, in the order of ranks.
     fn side(&mut self, verb: &str, row: Row, trades: u16, price: HalfCents) -> io::Result<()> {
         let HalfCents(price) = price;
-        for rank in 0..usize::from(trades) {
-            if let Some(ranked) = row.get(rank) {
-                let member = ranked.member;
-                writeln!(self.out, "member {member} {verb} {price}")?;
-            }
+        for ranked in (0..usize::from(trades)).filter_map(|rank| row.get(rank)) {
+            let member = ranked.member;
+            writeln!(self.out, "member {member} {verb} {price}")?;
         }
         Ok(())
     }

@@ -1,10 +1,29 @@
 -- What trades leave in a cell: a cell of nobody who trades stays, and any other is changed once, by its buyer or its seller.
-use Rattle.std.proofs.Common.{◌≡◌, ℕ, ◌+◌, ◌<◌, ◌≤◌, cond, eqb, List, [], ◌∷◌, length, get_or, count_by, sym, refl, ap, ◌∙◌, inl, inr, arith}
-use Rattle.std.proofs.lemmas.List.{length-set, get_or-set_same, get_or-set_other}
+use Rattle.std.proofs.Common.{◌≡◌, ℕ, ◌+◌, ◌<◌, ◌≤◌, cond, eqb, List, [], ◌∷◌, length, get_or, set, Some, None, Option, count_by, sym, refl, ap, ◌∙◌, inl, inr, arith}
+use Rattle.std.proofs.lemmas.Option.{slice_get-get_or, slice_get_past}
+use Rattle.std.specs.List.{slice_get}
+use Rattle.std.specs.Option.{MatchOption}
+use Rattle.std.proofs.lemmas.List.{set_past, length-set, get_or-set_same, get_or-set_other}
 use Rattle.std.proofs.lemmas.List.Sums.{sum_by-cons}
-use Rattle.std.proofs.lemmas.Bool.{cases_eq, eq-eqb, ne_eqb, cond-true, cond-false}
+use Rattle.std.proofs.lemmas.Bool.{cases_eq, cases_lt, eq-eqb, ne_eqb, cond-true, cond-false}
 use Rattle.ranking.specs.declared.ranked.Ranked.{Ranked}
-use Rattle.ledger.specs.Trades.{changed, traded}
+use Rattle.ledger.specs.Trades.{changed, ChangedBy, traded}
+
+-- a rule that is a function changes its cell by it
+pub changed_by : (R : ℕ → ℕ → Type 0) (f : ℕ → ℕ) (n : ℕ) (xs ys : List ℕ) → ChangedBy R n xs ys → ((x y : ℕ) → R x y → y ≡ f x) → ys ≡ changed f n xs
+changed_by R f n xs ys h e = go (slice_get xs n) refl h
+  where
+    go : (o : Option ℕ) → slice_get xs n ≡ o → MatchOption o (ys ≡ xs) (λ x. (y : ℕ) × R x y × (ys ≡ set xs n y)) → ys ≡ changed f n xs
+    go None q same =
+        elim (cases_lt n (length xs)) [
+          | inl l ↦ let there : slice_get xs n ≡ Some (get_or xs n 0) = slice_get-get_or xs n 0 l in let z : ◌≡◌ {A = ℕ} 0 1 = cc in absurd (omega arith)
+          | inr l ↦ same ∙ sym (set_past xs n _ l)
+        ]
+    go (Some x) q (y, r, s) =
+        elim (cases_lt n (length xs)) [
+          | inl l ↦ let there : slice_get xs n ≡ Some (get_or xs n 0) = slice_get-get_or xs n 0 l in let z : x ≡ get_or xs n 0 = cc in s ∙ ap (set xs n) (e x y r ∙ ap f z)
+          | inr l ↦ let past : slice_get xs n ≡ None = slice_get_past xs n l in let z : ◌≡◌ {A = ℕ} 0 1 = cc in absurd (omega arith)
+        ]
 
 module _ (buy sell cell : ℕ → ℕ) (n : ℕ) where
   -- how many of a list have the cell

@@ -1,32 +1,29 @@
--- Pairs counted rank by rank, as an index tells who has a rank.
-use Rattle.std.proofs.Common.{◌≡◌, ℕ, ◌+◌, ◌<◌, ◌≤◌, min, List, length, drop, Some, None, inl, inr, arith}
-use Rattle.std.specs.List.{slice_get}
-use Rattle.std.proofs.lemmas.List.{drop_all}
-use Rattle.std.proofs.lemmas.Bool.{cases_lt}
+-- The ranks in front that have a pair, as an index tells who has a rank, are the pairs of a kind.
+use Rattle.std.proofs.Common.{◌≡◌, ℕ, zero, suc, ◌+◌, min, cond, leb, List, [], ◌∷◌, length, refl, ap, ◌∙◌, ap₂, add-one, one-add, arith}
+use Rattle.std.specs.List.{slice_get, range_with_len, prefix_len}
 use Rattle.ranking.specs.declared.ranked.Ranked.{Ranked}
 use Rattle.clearing.specs.Rule.{cents_of, pairs}
-use Rattle.clearing.proofs.Pairing.{pairs_more, pairs_stop, pairs_end_bids, pairs_end_asks}
-use Rattle.ledger.proofs.Filled.{left_more, none_left}
+use Rattle.ledger.specs.Pairs.{are_pair}
 
-module _ (bs ss : List Ranked) (r q : ℕ) (inv : r + pairs (cents_of (drop r bs)) (cents_of (drop r ss)) ≡ q) where
-  pub one_pair : (b s : Ranked) → Some b ≡ slice_get bs r → Some s ≡ slice_get ss r → s.cents.0 ≤ b.cents.0 →
-      r + 1 + pairs (cents_of (drop (r + 1) bs)) (cents_of (drop (r + 1) ss)) ≡ q
-  one_pair b s eb es l =
-      pairs_more r q (drop r bs) (drop r ss) (drop (r + 1) bs) (drop (r + 1) ss) b s (left_more bs r b eb) (left_more ss r s es) l inv
+-- how many of n ranks from a on have a pair before there is one without
+abbrev pub front : List Ranked → List Ranked → ℕ → ℕ → ℕ
+front bs ss a n = prefix_len (λ r. are_pair (slice_get bs r) (slice_get ss r)) (range_with_len a n)
 
-  pub no_pair : (b s : Ranked) → Some b ≡ slice_get bs r → Some s ≡ slice_get ss r → b.cents.0 < s.cents.0 → r ≡ q
-  no_pair b s eb es l =
-      pairs_stop r q (drop r bs) (drop r ss) (drop (r + 1) bs) (drop (r + 1) ss) b s (left_more bs r b eb) (left_more ss r s es) l inv
+-- the ranks after the first are those of the lists without it
+front_shift : (bs ss : List Ranked) (b s : Ranked) (n a : ℕ) → front (b ∷ bs) (s ∷ ss) (a + 1) n ≡ front bs ss a n
+front_shift bs ss b s zero a = refl
+front_shift bs ss b s (suc n) a =
+    ap₂ (λ t m. cond t (1 + m) 0)
+    (ap (λ r. are_pair (slice_get (b ∷ bs) r) (slice_get (s ∷ ss) r)) (add-one a))
+    (front_shift bs ss b s n (a + 1))
 
-  pub no_buyer : None ≡ slice_get bs r → r ≡ q
-  no_buyer e = pairs_end_bids r q (drop r bs) (drop r ss) (none_left bs r e) inv
-
-  pub no_seller : None ≡ slice_get ss r → r ≡ q
-  no_seller e = pairs_end_asks r q (drop r bs) (drop r ss) (none_left ss r e) inv
-
-  pub no_more : min (length bs) (length ss) ≤ r → r ≡ q
-  no_more h =
-      elim (cases_lt r (length bs)) [
-        | inl l ↦ pairs_end_asks r q (drop r bs) (drop r ss) (drop_all r ss (omega arith)) inv
-        | inr l ↦ pairs_end_bids r q (drop r bs) (drop r ss) (drop_all r bs l) inv
-      ]
+pub pairs_in_front : (bs ss : List Ranked) (both : ℕ) → both ≡ min (length bs) (length ss) → front bs ss 0 both ≡ pairs (cents_of bs) (cents_of ss)
+unfolding pairs
+pairs_in_front [] ss both e = let none : both ≡ 0 = omega arith in ap (front [] ss 0) none
+pairs_in_front (b ∷ bs) [] both e = let none : both ≡ 0 = omega arith in ap (front (b ∷ bs) [] 0) none
+pairs_in_front (b ∷ bs) (s ∷ ss) both e =
+    let more : both ≡ suc (min (length bs) (length ss)) = omega arith in
+    ap (front (b ∷ bs) (s ∷ ss) 0) more
+    ∙ ap (λ n. cond (leb s.cents.0 b.cents.0) n 0)
+    (ap (λ n. 1 + n) (front_shift bs ss b s (min (length bs) (length ss)) 0 ∙ pairs_in_front bs ss (min (length bs) (length ss)) refl)
+    ∙ one-add (pairs (cents_of bs) (cents_of ss)))

@@ -4,7 +4,7 @@ use Rattle.std.proofs.lemmas.List.{drop-append-le, drop-replicate, take-append-l
 use Rattle.std.proofs.lemmas.Bool.{lt-ltb}
 use Rattle.orders.specs.Entries.{entry_of, row_of, kind_row}
 use Rattle.orders.proofs.Rows.{row_within}
-use Rattle.ranking.specs.declared.index.Index.{Index}
+use Rattle.ranking.specs.Indexes.{Index}
 use Rattle.ranking.specs.declared.ranked.Side.{Side}
 use Rattle.ranking.specs.declared.ranked.Side.TheVariants.{Buyers, Sellers}
 use Rattle.ranking.specs.Indexes.{kind_list, kind_members}

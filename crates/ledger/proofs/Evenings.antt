@@ -1,14 +1,13 @@
 -- A whole evening is under way from its opening to its closing, and all that is promised of it holds.
-use Rattle.std.proofs.Common.{◌≡◌, ℕ, ◌*◌, ◌≤◌, false, List, length, get_or, Some, None, sym, refl, ap, ◌∙◌, subst, arith}
+use Rattle.std.proofs.Common.{◌≡◌, ℕ, ◌*◌, ◌≤◌, false, List, length, get_or, None, sym, refl, ap, ◌∙◌, subst, arith}
 use Rattle.std.proofs.lemmas.Bool.{le-ltb}
-use Rattle.orders.specs.declared.refusal.Refusal.{Refusal}
 use Rattle.orders.specs.Lent.{Held, Fits}
 use Rattle.orders.specs.Opening.{opening}
 use Rattle.orders.specs.Running.{run, answers_to}
 use Rattle.orders.specs.Statements.{AllSound}
 use Rattle.orders.proofs.Openings.{opens, lacks_nothing, length_emptied, opened_sound}
 use Rattle.orders.proofs.Soundness.{sound_run}
-use Rattle.ranking.specs.declared.index.Index.{Index}
+use Rattle.ranking.specs.Indexes.{Index}
 use Rattle.ledger.specs.Indexed.{Indexed}
 use Rattle.ledger.specs.Refusing.{no_room, closing, holding}
 use Rattle.ledger.specs.Underway.{InBounds, Underway}
@@ -103,9 +102,6 @@ module _ (K M fund : ℕ) (h : Held) (e : None ≡ opening K M fund h) (K₀ M�
       carried_back (λ k m f x. Underway k m f x ix₁)
       (record { in_bounds = bounds K M fund h e ms; indexed = subst (λ x. Indexed K M x.entries ix₁) run_is after })
 
-  pub still_closes : (sheet buyers sellers : ℕ) (x : Refusal) → no_room K M sheet buyers sellers ≡ false → Some x ≡ closing K₁ M₁ h₂ sheet buyers sellers → ⊥
-  still_closes sheet buyers sellers x room refused =
-      let z : Some x ≡ None =
-      refused ∙ carried_back (λ k m f x. closing k m x sheet buyers sellers ≡ None) (closes K M fund h e ms sheet buyers sellers room) in
-      let n : ◌≡◌ {A = ℕ} 0 1 = cc in
-      omega arith
+  pub still_closes : (sheet buyers sellers : ℕ) → no_room K M sheet buyers sellers ≡ false → closing K₁ M₁ h₂ sheet buyers sellers ≡ None
+  still_closes sheet buyers sellers room =
+      carried_back (λ k m f x. closing k m x sheet buyers sellers ≡ None) (closes K M fund h e ms sheet buyers sellers room)

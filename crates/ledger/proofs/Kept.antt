@@ -13,7 +13,7 @@ use Rattle.orders.specs.Taking.{order_of, committed_with}
 use Rattle.orders.proofs.Positions.{judged_ok}
 use Rattle.orders.proofs.Rows.{row_within}
 use Rattle.orders.proofs.Rulings.{asks_for, coded}
-use Rattle.ranking.specs.declared.index.Index.{Index}
+use Rattle.ranking.specs.Indexes.{Index}
 use Rattle.ranking.specs.declared.ranked.Side.{Side}
 use Rattle.ranking.specs.Indexes.{kind_list, kind_members}
 use Rattle.ledger.specs.Indexed.{Lists, Indexed}

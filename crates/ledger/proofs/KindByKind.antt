@@ -5,7 +5,7 @@ use Rattle.orders.specs.declared.books.Books.{Books}
 use Rattle.orders.specs.declared.entry.Entry.{Entry}
 use Rattle.orders.specs.Entries.{kind_row}
 use Rattle.orders.specs.Lent.{Held, held}
-use Rattle.ranking.specs.declared.index.Index.{Index}
+use Rattle.ranking.specs.Indexes.{Index}
 use Rattle.ranking.specs.declared.ranked.Side.TheVariants.{Buyers, Sellers}
 use Rattle.ranking.specs.declared.ranked.Ranked.{Ranked}
 use Rattle.ranking.specs.Ranks.{own}
@@ -86,9 +86,6 @@ module _ (K M fund : ℕ) (ix : Index) (b₀ : Books) (sheet₀ : List ℕ) (buy
         settled = λ z. none_settled K M fund (held b₀) z.underway.in_bounds;
         on_sheet = λ z. record { ends = refl; bytes = sym (written_none 0 sheet₀) };
       }
-
-  pub all_through : (k : ℕ) (books : Books) (f end : ℕ) (sheet : List ℕ) → k ≡ K → Through k books f end sheet → Through K books f end sheet
-  all_through k books f end sheet e t = subst (λ j. Through j books f end sheet) e t
 
   module _ (k : ℕ) (lk : k < K) (b₁ : Books) (f₁ end₁ : ℕ) (sheet₁ : List ℕ) (buyers₁ sellers₁ : List Ranked) (t : Through k b₁ f₁ end₁ sheet₁)
       (lb : length buyers₁ ≡ length buyers₀) (ls : length sellers₁ ≡ length sellers₀) (lt : length sheet₁ ≡ length sheet₀) where

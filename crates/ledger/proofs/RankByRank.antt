@@ -1,7 +1,6 @@
 -- Trades of a kind, settled rank by rank: what is left of the lists leads to the same end as the whole.
-use Rattle.std.proofs.Common.{◌≡◌, ℕ, ◌+◌, ◌<◌, ◌≤◌, min, List, [], ◌∷◌, length, get_or, take, drop, sym, refl, ap, ◌∙◌, inl, inr, arith}
-use Rattle.std.proofs.lemmas.List.{length-take, length-set, get_or-take, at_drop_more, drop_all}
-use Rattle.std.proofs.lemmas.Bool.{cases_lt}
+use Rattle.std.proofs.Common.{◌≡◌, ℕ, zero, suc, ◌+◌, ◌-◌, ◌<◌, ◌≤◌, ◌⊎◌, List, [], ◌∷◌, length, get_or, take, sym, refl, ap, ◌∙◌, ap₂, inl, inr, arith}
+use Rattle.std.proofs.lemmas.List.{length-set}
 use Rattle.orders.specs.declared.books.Books.{Books}
 use Rattle.orders.specs.Lent.{SameLoans}
 use Rattle.orders.proofs.Runs.{same_loans}
@@ -44,42 +43,31 @@ pub as_many : (f g : ℕ → ℕ) (m n : ℕ) (xs ys : List ℕ) → ys ≡ chan
 as_many f g m n xs ys e =
     ap length e ∙ length-set (changed f m xs) n (g (get_or (changed f m xs) n 0)) ∙ length-set xs m (f (get_or xs m 0))
 
-module _ (buy sell cell : ℕ → ℕ) (t : ℕ) (bs ss : List Ranked) where
-  -- what the ranks from r on leave of cells
-  abbrev pub left_to_trade : ℕ → List ℕ → List ℕ
-  left_to_trade r xs = traded buy sell cell (drop r (take t bs)) (drop r (take t ss)) xs
+module _ (buy sell cell : ℕ → ℕ) where
+  -- what up to n ranks of what is left of the lists leave of cells
+  abbrev pub left_to_trade : ℕ → List Ranked → List Ranked → List ℕ → List ℕ
+  left_to_trade n bs ss xs = traded buy sell cell (take n bs) (take n ss) xs
 
-  pub next_rank : (r : ℕ) (xs : List ℕ) (d : Ranked) → r < t → r < length bs → r < length ss →
-      left_to_trade r xs ≡ left_to_trade (r + 1) (changed sell (cell (get_or ss r d).member) (changed buy (cell (get_or bs r d).member) xs))
+  -- a rank of the t that trade is settled
+  pub rank_settled : (t r : ℕ) (b s : Ranked) (bs bs' ss ss' : List Ranked) (xs xs' end : List ℕ) → r < t → bs ≡ b ∷ bs' → ss ≡ s ∷ ss' →
+      xs' ≡ changed sell (cell s.member) (changed buy (cell b.member) xs) → left_to_trade (t - r) bs ss xs ≡ end →
+      left_to_trade (t - (r + 1)) bs' ss' xs' ≡ end
   unfolding traded
-  next_rank r xs d lt lb ls =
-      at_drop_more (λ us. traded buy sell cell us (drop r (take t ss)) xs) (take t bs) r d (simp length-take (omega arith))
-      ∙ at_drop_more (λ vs. traded buy sell cell (get_or (take t bs) r d ∷ drop (r + 1) (take t bs)) vs xs) (take t ss) r d (simp length-take (omega arith))
-      ∙ ap (λ (x : Ranked). left_to_trade (r + 1) (changed sell (cell (get_or (take t ss) r d).member) (changed buy (cell x.member) xs))) (get_or-take t bs r d lt)
-      ∙ ap (λ (x : Ranked). left_to_trade (r + 1) (changed sell (cell x.member) (changed buy (cell (get_or bs r d).member) xs))) (get_or-take t ss r d lt)
+  rank_settled t r b s bs bs' ss ss' xs xs' end l eb es e inv =
+      let n : t - r ≡ suc (t - (r + 1)) = omega arith in
+      ap (left_to_trade (t - (r + 1)) bs' ss') e
+      ∙ sym (ap (λ k. left_to_trade k bs ss xs) n ∙ ap₂ (λ us vs. left_to_trade (suc (t - (r + 1))) us vs xs) eb es)
+      ∙ inv
 
-  abbrev pub nobody : Ranked
-  nobody = record { member = 0; cents = record { 0 = 0 } }
-
-  pub rank_settled : (r : ℕ) (xs xs' end : List ℕ) → r < t → r < min (length bs) (length ss) →
-      xs' ≡ changed sell (cell (get_or ss r nobody).member) (changed buy (cell (get_or bs r nobody).member) xs) →
-      left_to_trade r xs ≡ end → left_to_trade (r + 1) xs' ≡ end
-  rank_settled r xs xs' end lt l e inv =
-      ap (left_to_trade (r + 1)) e ∙ sym (next_rank r xs nobody lt (omega arith) (omega arith)) ∙ inv
-
-  none_buy : (us vs : List Ranked) (xs : List ℕ) → us ≡ [] → traded buy sell cell us vs xs ≡ xs
+  -- where as many have traded as are to trade, or one of the lists is through, nothing is left to trade
+  pub all_traded : (t r : ℕ) (bs ss : List Ranked) (xs : List ℕ) → t ≤ r → left_to_trade (t - r) bs ss xs ≡ xs
   unfolding traded
-  none_buy us vs xs e = ap (λ ws. traded buy sell cell ws vs xs) e
+  all_traded t r bs ss xs l = let n : t - r ≡ 0 = omega arith in ap (λ k. left_to_trade k bs ss xs) n
 
-  none_sell : (us vs : List Ranked) (xs : List ℕ) → vs ≡ [] → traded buy sell cell us vs xs ≡ xs
+  pub no_more : (n : ℕ) (bs ss : List Ranked) (xs : List ℕ) → (length bs ≡ 0) ⊎ (length ss ≡ 0) → left_to_trade n bs ss xs ≡ xs
   unfolding traded
-  none_sell [] vs xs e = refl
-  none_sell (u ∷ us) vs xs e = ap (λ ws. traded buy sell cell (u ∷ us) ws xs) e
-
-  -- where the ranks are through, nothing is left to trade
-  pub ranks_done : (r : ℕ) (xs : List ℕ) → min t (min (length bs) (length ss)) ≤ r → left_to_trade r xs ≡ xs
-  ranks_done r xs h =
-      elim (cases_lt r (min t (length bs))) [
-        | inl l ↦ none_sell (drop r (take t bs)) (drop r (take t ss)) xs (drop_all r (take t ss) (simp length-take (omega arith)))
-        | inr l ↦ none_buy (drop r (take t bs)) (drop r (take t ss)) xs (drop_all r (take t bs) (simp length-take (omega arith)))
-      ]
+  no_more zero bs ss xs e = refl
+  no_more (suc n) [] ss xs e = refl
+  no_more (suc n) (b ∷ bs) [] xs e = refl
+  no_more (suc n) (b ∷ bs) (s ∷ ss) xs (inl e) = absurd (omega arith)
+  no_more (suc n) (b ∷ bs) (s ∷ ss) xs (inr e) = absurd (omega arith)

@@ -1,5 +1,5 @@
 -- The ranked lists of a row in which one member's entry is another.
-use Rattle.std.proofs.Common.{◌≡◌, ℕ, ◌<◌, Bool, true, false, cond, not, ◌&&◌, ◌||◌, eqb, ltb, List, [], ◌∷◌, length, get_or, set, Some, None, Option, sym, refl, ap, ◌∙◌, subst, arith}
+use Rattle.std.proofs.Common.{◌≡◌, ℕ, ◌<◌, Bool, true, false, cond, not, ◌&&◌, ◌||◌, eqb, ltb, List, [], ◌∷◌, length, get_or, set, Some, None, Option, sym, refl, ap, ◌∙◌, arith}
 use Rattle.std.proofs.ByRecursion.{All-weaker}
 use Rattle.std.proofs.lemmas.List.{set-get_or, get_or-set_same, length-set}
 use Rattle.std.proofs.lemmas.Bool.{eq-eqb, ne_eqb, or_parts, or_from, lt-ltb}
@@ -7,17 +7,17 @@ use Rattle.std.specs.List.{AllByRecursion}
 use Rattle.orders.specs.declared.entry.Entry.{Entry}
 use Rattle.orders.specs.declared.entry.Entry.TheVariants.{Nothing, Bid, Ask}
 use Rattle.orders.specs.declared.money.Cents.{Cents}
-use Rattle.ranking.specs.declared.index.Index.{Index}
+use Rattle.ranking.specs.Indexes.{Index}
 use Rattle.ranking.specs.declared.ranked.Side.{Side}
 use Rattle.ranking.specs.declared.ranked.Side.TheVariants.{Buyers, Sellers}
 use Rattle.ranking.specs.declared.ranked.Ranked.{Ranked}
 use Rattle.ranking.specs.Indexes.{kind_list, kind_members}
 use Rattle.ranking.specs.Lists.{has, less}
-use Rattle.ranking.specs.Ranks.{before, insert, entered, on_side, own, ranked}
+use Rattle.ranking.specs.Ranks.{before, insert, entered, on_side, own, ranked, side_of}
 use Rattle.ranking.specs.Sides.{opposite}
 use Rattle.clearing.specs.Kind.{Apart, number}
 use Rattle.clearing.proofs.Rows.{InRow, ranked_in_row, ranked_set}
-use Rattle.ledger.specs.Indexed.{Lists, side_of}
+use Rattle.ledger.specs.Indexed.{Lists}
 
 -- no two members have one number
 own_apart : (row : List Entry) → Apart own row
@@ -52,27 +52,19 @@ both_sides Buyers P a b Sellers = b
 both_sides Sellers P a b Buyers = b
 both_sides Sellers P a b Sellers = a
 
-some_same : {A : Type 0} (x y : A) → Some x ≡ Some y → x ≡ y
-some_same x y h = cc
-
 -- an entry stands on one side, and not on the other
 on_its_side : (e : Entry) (s : Side) (c : Cents) → Some (s, c) ≡ side_of e → (on_side s e ≡ Some c) × (on_side (opposite s) e ≡ None)
 on_its_side Nothing s c h = let z : ◌≡◌ {A = ℕ} 0 1 = cc in absurd (omega arith)
 on_its_side (Bid d) s c h =
-    let p = some_same (s, c) (Buyers, d) h in (
+    let p : ◌≡◌ {A = Side × Cents} (s, c) (Buyers, d) = cc in (
       ap (λ (q : Side × Cents). on_side q.0 (Bid d)) p ∙ ap (λ (q : Side × Cents). Some q.1) (sym p),
       ap (λ (q : Side × Cents). on_side (opposite q.0) (Bid d)) p,
     )
 on_its_side (Ask d) s c h =
-    let p = some_same (s, c) (Sellers, d) h in (
+    let p : ◌≡◌ {A = Side × Cents} (s, c) (Sellers, d) = cc in (
       ap (λ (q : Side × Cents). on_side q.0 (Ask d)) p ∙ ap (λ (q : Side × Cents). Some q.1) (sym p),
       ap (λ (q : Side × Cents). on_side (opposite q.0) (Ask d)) p,
     )
-
-on_no_side : (e : Entry) → None ≡ side_of e → e ≡ Nothing
-on_no_side Nothing h = refl
-on_no_side (Bid d) h = let z : ◌≡◌ {A = ℕ} 0 1 = cc in absurd (omega arith)
-on_no_side (Ask d) h = let z : ◌≡◌ {A = ℕ} 0 1 = cc in absurd (omega arith)
 
 nothing_on : (s : Side) → on_side s Nothing ≡ None
 nothing_on Buyers = refl
@@ -120,11 +112,6 @@ left ix ix' k m e s c h this other size row l there w =
       members = size ∙ w.members ∙ sym (length-set row m Nothing);
     }
 
--- the same where nothing was there
-pub left_nothing : (ix : Index) (k m : ℕ) (e : Entry) → None ≡ side_of e → (row : List Entry) → get_or row m Nothing ≡ e → Lists row k ix → Lists (set row m Nothing) k ix
-left_nothing ix k m e h row there w =
-    subst (λ (r : List Entry). Lists r k ix) (sym (set-get_or row m Nothing) ∙ ap (set row m) (there ∙ on_no_side e h)) w
-
 -- what an index holds when an entry has been taken in
 pub joined : (ix ix' : Index) (k m : ℕ) (e : Entry) (s : Side) (c : Cents) → Some (s, c) ≡ side_of e → (free : Bool) → free ≡ (ltb m (kind_members k ix) && not (has m (kind_list k Buyers ix) || has m (kind_list k Sellers ix))) → kind_list k s ix' ≡ cond free (insert s own (record { member = m; cents = c }) (kind_list k s ix)) (kind_list k s ix) → kind_list k (opposite s) ix' ≡ kind_list k (opposite s) ix → kind_members k ix' ≡ kind_members k ix → (row : List Entry) → m < length row → get_or row m Nothing ≡ Nothing → Lists row k ix → Lists (set row m e) k ix'
 joined ix ix' k m e s c h free was this other size row l there w =
@@ -153,7 +140,3 @@ joined ix ix' k m e s c h free was this other size row l there w =
 
     is_free : free ≡ true
     is_free = was ∙ rw (ap (ltb m) w.members ∙ lt-ltb m (length row) l, absent Buyers, absent Sellers)
-
-pub joined_nothing : (ix : Index) (k m : ℕ) (e : Entry) → None ≡ side_of e → (row : List Entry) → get_or row m Nothing ≡ Nothing → Lists row k ix → Lists (set row m e) k ix
-joined_nothing ix k m e h row there w =
-    subst (λ (r : List Entry). Lists r k ix) (sym (set-get_or row m Nothing) ∙ ap (set row m) (there ∙ sym (on_no_side e h))) w

@@ -1,6 +1,6 @@
 -- The members of the first ranks, one past the pairs, as they are written into lists: they give the kind's outcome, and the
 -- lists begin with those who trade.
-use Rattle.std.proofs.Common.{◌≡◌, ℕ, suc, ◌+◌, ◌-◌, ◌≤◌, min, List, length, take, drop, sym, ap, ◌∙◌, ap₂, inl, inr, arith}
+use Rattle.std.proofs.Common.{◌≡◌, ℕ, suc, ◌+◌, ◌≤◌, min, List, length, take, drop, sym, ap, ◌∙◌, ap₂, inl, inr, arith}
 use Rattle.std.proofs.lemmas.List.{length-take, take_all, take-map, take_at, take-take, take-append-le}
 use Rattle.std.proofs.lemmas.List.Sums.{count_by-le-length}
 use Rattle.std.proofs.lemmas.Bool.{cases_lt}
@@ -22,8 +22,8 @@ use Rattle.ledger.specs.Publishing.{ClearedAs}
 use Rattle.ledger.specs.Trades.{trading}
 
 -- what was written into a list is at its beginning
-pub part_is : (xs old : List Ranked) (n : ℕ) → n ≡ length xs → take (n - 0) (drop 0 (written_over xs old)) ≡ xs
-part_is xs old n e = let z : n - 0 ≡ length xs = omega arith in take_at xs (drop (length xs) old) (n - 0) (sym z)
+pub part_is : (xs old : List Ranked) (n : ℕ) → n ≡ length xs → take n (written_over xs old) ≡ xs
+part_is xs old n e = take_at xs (drop (length xs) old) n (sym e)
 
 module _ (row : List Entry) where
   abbrev p : ℕ
@@ -62,7 +62,7 @@ module _ (row : List Entry) where
 -- a side's list after its first ranks were written into it, and the part that they are
 pub record Filled (row : List Entry) (s : Side) (before after : List Ranked) (count : ℕ) : Type 0 where
   pub list : after ≡ written_over (first_ranks s row) before
-  pub part : take (count - 0) (drop 0 after) ≡ first_ranks s row
+  pub part : take count after ≡ first_ranks s row
 
 pub filled : (row : List Entry) (s : Side) (xs before after : List Ranked) (q count : ℕ) → xs ≡ ranked s own row → q ≡ pairs_in own row →
     length row ≤ length before → after ≡ written_over (take (min (q + 1) (length before)) xs) before →
@@ -73,11 +73,11 @@ filled row s xs before after q count ex eq room e ec =
     let list : after ≡ written_over (first_ranks s row) before = e ∙ ap (λ ys. written_over ys before) same in
     record {
       list = list;
-      part = ap (λ ys. take (count - 0) (drop 0 ys)) list ∙ part_is (first_ranks s row) before count (ec ∙ ap length same);
+      part = ap (take count) list ∙ part_is (first_ranks s row) before count (ec ∙ ap length same);
     }
 
 pub cleared_as : (row : List Entry) (bs₀ ss₀ bs ss : List Ranked) (x y : ℕ) (o : Outcome) → Filled row Buyers bs₀ bs x → Filled row Sellers ss₀ ss y →
-    o ≡ cleared (cents_of (take (x - 0) (drop 0 bs))) (cents_of (take (y - 0) (drop 0 ss))) → ClearedAs row o bs ss
+    o ≡ cleared (cents_of (take x bs)) (cents_of (take y ss)) → ClearedAs row o bs ss
 cleared_as row bs₀ ss₀ bs ss x y o fb fs e =
     let rule : o ≡ outcome own row =
     e ∙ ap₂ (λ us vs. cleared (cents_of us) (cents_of vs)) fb.part fs.part ∙ outcome_shown row in

@@ -1,7 +1,7 @@
 -- One member over all kinds: its account and berths after closing, as sums over the kinds.
 use Rattle.std.proofs.Common.{◌≡◌, ℕ, zero, suc, ◌+◌, ◌-◌, ◌*◌, ◌<◌, ◌≤◌, cond, eqb, List, [], ◌∷◌, get_or, sum_by, count_by, sym, refl, ap, ◌∙◌, inl, inr, arith}
 use Rattle.std.specs.List.{range_with_len}
-use Rattle.std.proofs.lemmas.List.Sums.{sum_by-cons}
+use Rattle.std.proofs.lemmas.List.Sums.{sum_by-cons, sum_by-le-sum_by}
 use Rattle.std.proofs.lemmas.Bool.{cases_eq, eq-eqb, ne_eqb, cond-true, cond-false}
 use Rattle.orders.specs.declared.entry.Entry.{Entry}
 use Rattle.orders.specs.declared.entry.Entry.TheVariants.{Nothing}
@@ -11,10 +11,6 @@ use Rattle.ledger.specs.Closing.{paid, got, bought, sold, account_after, berths_
 use Rattle.ledger.proofs.Trading.{moves}
 
 -- sums over a list of kinds
-pub sum_le : (f g : ℕ → ℕ) (ks : List ℕ) → ((k : ℕ) → f k ≤ g k) → sum_by f ks ≤ sum_by g ks
-sum_le f g [] h = omega arith
-sum_le f g (k ∷ ks) h = omega (arith, sum_by-cons f k ks, sum_by-cons g k ks, h k, sum_le f g ks h)
-
 pub sum_add : (f g : ℕ → ℕ) (ks : List ℕ) → sum_by (λ k. f k + g k) ks ≡ sum_by f ks + sum_by g ks
 sum_add f g [] = refl
 sum_add f g (k ∷ ks) =
@@ -97,7 +93,7 @@ module _ (rows : ℕ → List Entry) (i : ℕ) where
       let f : ℕ → Entry = λ k. get_or (rows k) i Nothing in
       omega (
         arith,
-        sum_le (λ k. paid (rows k) i) (λ k. 2 * bid_in (f k)) (kinds K) (λ k. (moves (rows k) i).covered),
+        sum_by-le-sum_by (λ k. paid (rows k) i) (λ k. 2 * bid_in (f k)) (kinds K) (λ k. (moves (rows k) i).covered),
         sum_double (λ k. bid_in (f k)) (kinds K),
         bids_are f K,
         h,

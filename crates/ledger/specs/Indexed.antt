@@ -1,13 +1,9 @@
 -- An index of entries holds, for each kind and side, the ranked list of the kind's row of entries.
-use Rattle.std.specs.Prelude.{◌≡◌, ℕ, ◌<◌, List, length, Some, None, Option}
+use Rattle.std.specs.Prelude.{◌≡◌, ℕ, ◌<◌, List, length}
 use Rattle.orders.specs.declared.entry.Entry.{Entry}
-use Rattle.orders.specs.declared.entry.Entry.TheVariants.{Nothing, Bid, Ask}
-use Rattle.orders.specs.declared.money.Cents.{Cents}
 use Rattle.orders.specs.Entries.{kind_row}
-use Rattle.ranking.specs.declared.index.Index.{Index}
 use Rattle.ranking.specs.declared.ranked.Side.{Side}
-use Rattle.ranking.specs.declared.ranked.Side.TheVariants.{Buyers, Sellers}
-use Rattle.ranking.specs.Indexes.{kind_list, kind_members}
+use Rattle.ranking.specs.Indexes.{Index, kind_list, kind_members}
 use Rattle.ranking.specs.Ranks.{own, ranked}
 
 -- a kind of an index holds the ranked lists of a row
@@ -18,9 +14,3 @@ pub record Lists (row : List Entry) (k : ℕ) (ix : Index) : Type 0 where
 -- each of K kinds holds those of its row
 abbrev pub Indexed : ℕ → ℕ → List ℕ → Index → Type 0
 Indexed K M codes ix = (k : ℕ) → k < K → Lists (kind_row M codes k) k ix
-
--- the side on which an entry stands, and its number
-abbrev pub side_of : Entry → Option (Side × Cents)
-side_of Nothing = None
-side_of (Bid c) = Some (Buyers, c)
-side_of (Ask c) = Some (Sellers, c)

@@ -5,6 +5,8 @@ pub mod Closing
 pub mod Worth
 pub mod Statements
 pub mod Trades
+pub mod Pairs
 pub mod Publishing
 pub mod Refusing
+pub mod Space
 pub mod Whole

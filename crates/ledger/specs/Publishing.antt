@@ -3,7 +3,7 @@
 use Rattle.std.specs.Prelude.{◌≡◌, ℕ, ◌+◌, ◌*◌, ◌<◌, ◌≤◌, List, length, take}
 use Rattle.orders.specs.declared.entry.Entry.{Entry}
 use Rattle.orders.specs.Entries.{kind_row}
-use Rattle.ranking.specs.declared.index.Index.{Index}
+use Rattle.ranking.specs.Indexes.{Index}
 use Rattle.ranking.specs.declared.ranked.Side.TheVariants.{Buyers, Sellers}
 use Rattle.ranking.specs.declared.ranked.Ranked.{Ranked}
 use Rattle.ranking.specs.Ranks.{own}

@@ -2,7 +2,8 @@
 -- ranks. A trade takes its price from the buyer's account and adds the seller's to the seller's, and it adds a berth to the
 -- buyer's and takes one of the seller's. A count that would leave its word stops at the word's end; in an evening that
 -- never happens.
-use Rattle.std.specs.Prelude.{ℕ, ◌+◌, ◌-◌, ◌*◌, ◌^◌, min, List, [], ◌∷◌, take, slice_index, slice_set}
+use Rattle.std.specs.Prelude.{◌≡◌, ℕ, ◌+◌, ◌-◌, ◌*◌, ◌^◌, min, List, [], ◌∷◌, take, MatchOption, slice_index, slice_set}
+use Rattle.std.specs.List.{slice_get}
 use Rattle.orders.specs.declared.entry.Entry.{Entry}
 use Rattle.ranking.specs.declared.ranked.Side.{Side}
 use Rattle.ranking.specs.declared.ranked.Ranked.{Ranked}
@@ -17,6 +18,10 @@ trading s row = take (trades_in (outcome own row)) (ranked s own row)
 -- numbers in cells, one of them changed
 abbrev pub changed : (ℕ → ℕ) → ℕ → List ℕ → List ℕ
 changed f n xs = slice_set xs n (f (slice_index xs n))
+
+-- one of the cells, if there is such a one, is what a rule makes of it; all others are as they were
+abbrev pub ChangedBy : {A : Type 0} → (A → A → Type 0) → ℕ → List A → List A → Type 0
+ChangedBy R n xs ys = MatchOption (slice_get xs n) (ys ≡ xs) (λ x. (y : _) × R x y × (ys ≡ slice_set xs n y))
 
 -- what is changed at buyers and at sellers, as many of either, each in its own cell
 unfoldable pub traded : (ℕ → ℕ) → (ℕ → ℕ) → (ℕ → ℕ) → List Ranked → List Ranked → List ℕ → List ℕ

@@ -2,7 +2,7 @@
 use Rattle.std.specs.Prelude.{ℕ, ◌+◌, ◌*◌, ◌<◌, ◌≤◌, List, length, slice_index}
 use Rattle.orders.specs.Lent.{Held, Fits}
 use Rattle.orders.specs.Statements.{AllSound}
-use Rattle.ranking.specs.declared.index.Index.{Index}
+use Rattle.ranking.specs.Indexes.{Index}
 use Rattle.ranking.specs.declared.ranked.Ranked.{Ranked}
 use Rattle.ledger.specs.Indexed.{Indexed}
 

@@ -8,12 +8,13 @@ ghost use Rattle.ledger.specs.Closing.{ClosedAs};
 ghost use Rattle.ledger.specs.Opening.{RefusedFor};
 ghost use Rattle.ledger.specs.Publishing.{OnSheet};
 ghost use Rattle.ledger.specs.Refusing.{holding, UnlessRefused};
+ghost use Rattle.ledger.specs.Space.{SameSpace};
 ghost use Rattle.ledger.specs.Whole.{opened, at_closing, FairFromMessages};
 
-use crate::closing::{Closing, lacks_room};
+use crate::closing::Closing;
 use crate::session::Session;
+use crate::space::Space;
 use orders::{Books, Input, Open, Part, Refusal};
-use ranking::Ranked;
 use std::alloc::Global;
 
 // Copies the first `count` entries.
@@ -33,38 +34,32 @@ pub fn hold(
     books: &mut Books,
     answers: &mut [Result<(), Refusal>],
     standing: &mut [u32],
-    sheet: &mut [u8],
-    buyers: &mut [Ranked],
-    sellers: &mut [Ranked],
+    space: &mut Space,
 ) -> Result<Closing, Refusal>
-    ensures refusal { RefusedFor (result_err result) (holding input.now.kinds input.now.members input.now.fund.0 (held books.old) (length standing.old) (length sheet.old) (length buyers.old) (length sellers.old)) }
+    ensures refusal { RefusedFor (result_err result) (holding input.now.extent.kinds input.now.extent.members input.now.fund.0 (held books.old) (length standing.old) (length space.old.sheet.now) (length space.old.buyers.now) (length space.old.sellers.now)) }
     ensures unchanged { UnlessRefused (result_err result) (held books.old) (held books.new) }
     ensures same_answers { UnlessRefused (result_err result) answers.old answers.new }
     ensures same_standing { UnlessRefused (result_err result) standing.old standing.new }
-    ensures same_sheet { UnlessRefused (result_err result) sheet.old sheet.new }
-    ensures answers { OnOk result (answers.new ≡ written_over (answers_to input.now.kinds input.now.members (opened input.now.kinds input.now.members (held books.old)) (messages (length answers.old) input.now.messages.now)) answers.old) }
-    ensures standing { OnOk result (standing.new ≡ written_over (take (input.now.kinds * input.now.members) (at_closing input.now.kinds input.now.members (held books.old) (messages (length answers.old) input.now.messages.now)).entries) standing.old) }
-    ensures closed { IfOk result (λ c. ClosedAs input.now.kinds input.now.members input.now.fund.0 (at_closing input.now.kinds input.now.members (held books.old) (messages (length answers.old) input.now.messages.now)) (held books.new) c.evening.fund.0) }
-    ensures sheet { IfOk result (λ c. OnSheet input.now.members (at_closing input.now.kinds input.now.members (held books.old) (messages (length answers.old) input.now.messages.now)).entries sheet.old input.now.kinds c.sheet sheet.new) }
-    ensures accepted { IfOk result (λ c. check_answer input.now.kinds input.now.members (at_closing input.now.kinds input.now.members (held books.old) (messages (length answers.old) input.now.messages.now)).entries (take c.sheet sheet.new) ≡ Ok tt) }
-    ensures fair { OnOk result (FairFromMessages input.now.kinds input.now.members input.now.fund.0 (held books.old) (messages (length answers.old) input.now.messages.now)) }
+    ensures same_sheet { UnlessRefused (result_err result) space.old.sheet.now space.new.sheet.now }
+    ensures answers { OnOk result (answers.new ≡ written_over (answers_to input.now.extent.kinds input.now.extent.members (opened input.now.extent.kinds input.now.extent.members (held books.old)) (messages (length answers.old) input.now.messages.now)) answers.old) }
+    ensures standing { OnOk result (standing.new ≡ written_over (take (input.now.extent.kinds * input.now.extent.members) (at_closing input.now.extent.kinds input.now.extent.members (held books.old) (messages (length answers.old) input.now.messages.now)).entries) standing.old) }
+    ensures closed { IfOk result (λ c. ClosedAs input.now.extent.kinds input.now.extent.members input.now.fund.0 (at_closing input.now.extent.kinds input.now.extent.members (held books.old) (messages (length answers.old) input.now.messages.now)) (held books.new) c.evening.fund.0) }
+    ensures sheet { IfOk result (λ c. OnSheet input.now.extent.members (at_closing input.now.extent.kinds input.now.extent.members (held books.old) (messages (length answers.old) input.now.messages.now)).entries space.old.sheet.now input.now.extent.kinds c.sheet space.new.sheet.now) }
+    ensures accepted { IfOk result (λ c. check_answer input.now.extent.kinds input.now.extent.members (at_closing input.now.extent.kinds input.now.extent.members (held books.old) (messages (length answers.old) input.now.messages.now)).entries (take c.sheet space.new.sheet.now) ≡ Ok tt) }
+    ensures fair { OnOk result (FairFromMessages input.now.extent.kinds input.now.extent.members input.now.fund.0 (held books.old) (messages (length answers.old) input.now.messages.now)) }
     ensures lent { SameLoans books.old books.new }
+    ensures same_space { SameSpace space.old space.new }
 {
-    if let Some(refusal) = Open::refusal(input.kinds, input.members, input.fund, books) {
-        return Err(refusal);
-    }
-    let slots = usize::from(input.kinds) * usize::from(input.members);
+    Open::check(input.extent, input.fund, books)?;
+    let slots = input.extent.slots();
     if standing.len() < slots {
         return Err(Refusal::Short(Part::Entries));
     }
-    if lacks_room(input.kinds, input.members, sheet, buyers, sellers) {
-        return Err(Refusal::Short(Part::Sheet));
-    }
-    let session = Session::open(heap, input.kinds, input.members, input.fund, books)?;
+    space.check(input.extent)?;
+    let session = Session::open(heap, input.extent, input.fund, books)?;
     let session = session.take_all(books, input.messages, answers);
     copy_entries(books, slots, standing);
-    match session.settle(books, sheet, buyers, sellers) {
-        Ok(closing) => Ok(closing),
-        Err((_session, refusal)) => Err(refusal),
-    }
+    session
+        .settle(books, space)
+        .map_err(|(_session, refusal)| refusal)
 }

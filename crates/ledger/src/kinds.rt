@@ -8,20 +8,25 @@ ghost use Rattle.ledger.specs.Underway.{Closable};
 use crate::session::Session;
 use crate::settling::{Trade, settle};
 use orders::{Books, HalfCents};
-use ranking::Ranked;
+use ranking::{Ranked, Side};
+
+// What the fund holds when all kinds are settled, and where the sheet ends.
+#[derive(Clone, Copy)]
+pub(crate) struct Settlement {
+    pub(crate) fund: HalfCents,
+    pub(crate) end: usize,
+}
 
 impl Session {
-    // Goes through the kinds from 0: each is put on the sheet, and its trades are settled rank by rank. Answers what the fund
-    // then holds, and where the sheet ends.
+    // Goes through the kinds from 0: each is put on the sheet, and its trades are settled rank by rank.
     pub(crate) fn settle_kinds(
         &self,
         books: &mut Books,
         sheet: &mut [u8],
         buyers: &mut [Ranked],
         sellers: &mut [Ranked],
-    ) -> (HalfCents, usize)
-        ensures settled { Closable self.now.open.kinds self.now.open.members self.now.open.fund.0 (held books.old) self.now.index sheet.old buyers.old sellers.old → Settled self.now.open.kinds self.now.open.members self.now.open.fund.0 (held books.old) self.now.open.kinds books.new.accounts.now books.new.berths.now result.0.0 }
-        ensures sheet { Closable self.now.open.kinds self.now.open.members self.now.open.fund.0 (held books.old) self.now.index sheet.old buyers.old sellers.old → OnSheet self.now.open.members books.old.entries.now sheet.old self.now.open.kinds result.1 sheet.new }
+    ) -> Settlement
+        ensures settled { let K = self.now.open.extent.kinds in let M = self.now.open.extent.members in let fund = self.now.open.fund.0 in Closable K M fund (held books.old) self.now.index sheet.old buyers.old sellers.old → Settled K M fund (held books.old) K books.new.accounts.now books.new.berths.now result.fund.0 × OnSheet M books.old.entries.now sheet.old K result.end sheet.new }
         ensures entries { books.new.entries.now ≡ books.old.entries.now }
         ensures numbers { books.new.numbers.now ≡ books.old.numbers.now }
         ensures committed { books.new.committed.now ≡ books.old.committed.now }
@@ -31,25 +36,28 @@ impl Session {
     {
         let mut fund = self.open.fund.0;
         let mut end = 0;
-        'kinds: for kind in 0..self.open.kinds {
+        'kinds: for kind in 0..self.open.extent.kinds {
             let cleared = self.publish(kind, sheet, end, buyers, sellers);
             end = cleared.end;
             fund = fund.saturating_add(cleared.takings().0);
             let outcome = cleared.outcome;
-            'ranks: for rank in 0..buyers.len().min(sellers.len()) {
+            'ranks: for (rank, (buyer, seller)) in buyers.iter().zip(sellers.iter()).enumerate() {
                 if rank == outcome.trades() {
                     continue 'kinds;
                 }
                 let trade = Trade {
                     kind,
-                    buyer: buyers[rank].member,
-                    seller: sellers[rank].member,
-                    paid: outcome.buyers_price(),
-                    got: outcome.sellers_price(),
+                    buyer: buyer.member,
+                    seller: seller.member,
+                    paid: outcome.price(Side::Buyers),
+                    got: outcome.price(Side::Sellers),
                 };
-                settle(self.open.kinds, books, trade);
+                settle(self.open.extent.kinds, books, trade);
             }
         }
-        (HalfCents(fund), end)
+        Settlement {
+            fund: HalfCents(fund),
+            end,
+        }
     }
 }

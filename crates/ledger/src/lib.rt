@@ -2,19 +2,21 @@
 #![tactic(auto)]
 
 mod closing;
-mod first_ranks;
 mod holding;
 mod indexing;
 mod kinds;
 mod opening;
+mod pairs;
 pub mod promises;
 mod publishing;
 mod ranks;
 mod running;
 mod session;
 mod settling;
+mod space;
 mod taking;
 
 pub use closing::Closing;
 pub use holding::hold;
 pub use session::Session;
+pub use space::Space;

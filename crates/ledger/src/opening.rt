@@ -8,7 +8,7 @@ ghost use Rattle.ledger.specs.Indexed.{Indexed};
 ghost use Rattle.ledger.specs.Opening.{RefusedFor};
 
 use crate::session::Session;
-use orders::{Books, HalfCents, Open, Refusal};
+use orders::{Books, Extent, HalfCents, Open, Refusal};
 use ranking::Index;
 use std::alloc::Global;
 
@@ -17,32 +17,25 @@ impl Session {
     // opening changes nothing. No call after this one gets memory.
     pub fn open(
         heap: Global,
-        kinds: u8,
-        members: u16,
+        extent: Extent,
         fund: HalfCents,
         books: &mut Books,
     ) -> Result<Session, Refusal>
-        ensures opened { IfOk result (λ s. (s.open.kinds ≡ kinds) × (s.open.members ≡ members) × (s.open.fund ≡ fund)) }
-        ensures refusal { RefusedFor (result_err result) (opening kinds members fund.0 (held books.old)) }
-        ensures entries { books.new.entries.now ≡ emptied (result_err result) (kinds * members) books.old.entries.now }
-        ensures numbers { books.new.numbers.now ≡ emptied (result_err result) members books.old.numbers.now }
-        ensures committed { books.new.committed.now ≡ emptied (result_err result) members books.old.committed.now }
+        ensures opened { IfOk result (λ s. (s.open.extent ≡ extent) × (s.open.fund ≡ fund)) }
+        ensures refusal { RefusedFor (result_err result) (opening extent.kinds extent.members fund.0 (held books.old)) }
+        ensures entries { books.new.entries.now ≡ emptied (result_err result) (extent.kinds * extent.members) books.old.entries.now }
+        ensures numbers { books.new.numbers.now ≡ emptied (result_err result) extent.members books.old.numbers.now }
+        ensures committed { books.new.committed.now ≡ emptied (result_err result) extent.members books.old.committed.now }
         ensures accounts { books.new.accounts.now ≡ books.old.accounts.now }
         ensures berths { books.new.berths.now ≡ books.old.berths.now }
         ensures lent { SameLoans books.old books.new }
-        ensures fits { OnOk result (Fits kinds members (held books.new)) }
-        ensures sound { OnOk result (AllSound kinds members (held books.new)) }
-        ensures indexed { IfOk result (λ s. Indexed kinds members books.new.entries.now s.index) }
+        ensures fits { OnOk result (Fits extent.kinds extent.members (held books.new)) }
+        ensures sound { OnOk result (AllSound extent.kinds extent.members (held books.new)) }
+        ensures indexed { IfOk result (λ s. Indexed extent.kinds extent.members books.new.entries.now s.index) }
     {
-        if let Some(refusal) = Open::refusal(kinds, members, fund, books) {
-            return Err(refusal);
-        }
-        let Ok(index) = Index::new(heap, kinds, members) else {
-            return Err(Refusal::Memory);
-        };
-        match Open::open(kinds, members, fund, books) {
-            Ok(open) => Ok(Session { open, index }),
-            Err(refusal) => Err(refusal),
-        }
+        Open::check(extent, fund, books)?;
+        let index = Index::new(heap, extent)?;
+        let open = Open::open(extent, fund, books)?;
+        Ok(Session { open, index })
     }
 }

@@ -9,7 +9,7 @@ use crate::session::Session;
 use clearing::{Outcome, clear};
 use orders::HalfCents;
 use ranking::{Ranked, Side};
-use sheet::write_kind;
+use sheet::{Listing, write_kind};
 
 // A kind's outcome, and where its part of the sheet ends.
 #[derive(Clone, Copy)]
@@ -43,16 +43,16 @@ impl Session {
         let pairs = self.pairs(kind);
         let buying = self.first_ranks(kind, Side::Buyers, pairs + 1, buyers);
         let selling = self.first_ranks(kind, Side::Sellers, pairs + 1, sellers);
-        let outcome = clear(&buyers[0..buying], &sellers[0..selling]);
-        let end = write_kind(
-            sheet,
-            at,
+        let buyers = &buyers[..buying];
+        let sellers = &sellers[..selling];
+        let outcome = clear(buyers, sellers);
+        let listing = Listing {
             pairs,
             outcome,
-            &buyers[0..buying],
-            &sellers[0..selling],
-        )
-        .unwrap_or(at);
+            buyers,
+            sellers,
+        };
+        let end = write_kind(sheet, at, listing).unwrap_or(at);
         Cleared { outcome, end }
     }
 }

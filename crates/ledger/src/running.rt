@@ -21,34 +21,16 @@ impl Session {
         answers: &mut [Result<(), Refusal>],
     ) -> Session
         ensures open { result.open ≡ self.open }
-        ensures after { held books.new ≡ run self.open.kinds self.open.members (held books.old) (messages (length answers.old) bytes.now) }
-        ensures answers { answers.new ≡ written_over (answers_to self.open.kinds self.open.members (held books.old) (messages (length answers.old) bytes.now)) answers.old }
-        ensures alone { Alone self.open.kinds self.open.members (held books.old) (held books.new) (messages (length answers.old) bytes.now) answers.new }
-        ensures sound { AllSound self.open.kinds self.open.members (held books.old) → AllSound self.open.kinds self.open.members (held books.new) }
-        ensures indexed { Indexed self.open.kinds self.open.members books.old.entries.now self.index → Indexed self.open.kinds self.open.members books.new.entries.now result.index }
+        ensures after { held books.new ≡ run self.open.extent.kinds self.open.extent.members (held books.old) (messages (length answers.old) bytes.now) }
+        ensures answers { answers.new ≡ written_over (answers_to self.open.extent.kinds self.open.extent.members (held books.old) (messages (length answers.old) bytes.now)) answers.old }
+        ensures alone { Alone self.open.extent.kinds self.open.extent.members (held books.old) (held books.new) (messages (length answers.old) bytes.now) answers.new }
+        ensures sound { AllSound self.open.extent.kinds self.open.extent.members (held books.old) → AllSound self.open.extent.kinds self.open.extent.members (held books.new) }
+        ensures indexed { Indexed self.open.extent.kinds self.open.extent.members books.old.entries.now self.index → Indexed self.open.extent.kinds self.open.extent.members books.new.entries.now result.index }
         ensures lent { SameLoans books.old books.new }
     {
-        self.hear_all(books, bytes, answers);
-        self
-    }
-
-    fn hear_all(&mut self, books: &mut Books, bytes: &[u8], answers: &mut [Result<(), Refusal>])
-        ensures open { self.new.open ≡ self.old.open }
-        ensures after { held books.new ≡ run self.old.open.kinds self.old.open.members (held books.old) (messages (length answers.old) bytes.now) }
-        ensures answers { answers.new ≡ written_over (answers_to self.old.open.kinds self.old.open.members (held books.old) (messages (length answers.old) bytes.now)) answers.old }
-        ensures alone { Alone self.old.open.kinds self.old.open.members (held books.old) (held books.new) (messages (length answers.old) bytes.now) answers.new }
-        ensures sound { AllSound self.old.open.kinds self.old.open.members (held books.old) → AllSound self.old.open.kinds self.old.open.members (held books.new) }
-        ensures indexed { Indexed self.old.open.kinds self.old.open.members books.old.entries.now self.old.index → Indexed self.old.open.kinds self.old.open.members books.new.entries.now self.new.index }
-        ensures lent { SameLoans books.old books.new }
-    {
-        let mut rest = bytes;
-        for i in 0..answers.len() {
-            if rest.is_empty() {
-                break;
-            }
-            let (message, after) = rest.split_at(rest.len().min(MESSAGE));
-            answers[i] = self.hear(books, message);
-            rest = after;
+        for (place, message) in bytes.chunks(MESSAGE).take(answers.len()).enumerate() {
+            (self, answers[place]) = self.take(books, message);
         }
+        self
     }
 }

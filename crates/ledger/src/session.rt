@@ -1,9 +1,9 @@
 // An open evening, with the index of its entries.
 use orders::Open;
-use ranking::Index;
+use ranking::{Book, Index};
 
 #[derive(Drop)]
 pub struct Session {
     pub open: Open,
-    pub index: Index,
+    pub index: Index<Book>,
 }

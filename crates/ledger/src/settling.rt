@@ -1,7 +1,7 @@
 // Settling a trade: money and a berth change hands.
 ghost use Rattle.std.specs.Prelude.{◌≡◌};
 ghost use Rattle.orders.specs.Lent.{SameLoans};
-ghost use Rattle.ledger.specs.Trades.{changed, paying, earning, one_more, one_less, account_cell, berth_cell};
+ghost use Rattle.ledger.specs.Trades.{changed, ChangedBy, paying, earning, one_more, one_less, account_cell, berth_cell};
 
 use orders::{Books, HalfCents};
 
@@ -26,40 +26,36 @@ pub(crate) fn settle(kinds: u8, books: &mut Books, trade: Trade)
 {
     let row = usize::from(kinds);
     let kind = usize::from(trade.kind);
-    take_money(books.accounts, usize::from(trade.buyer), trade.paid);
-    add_money(books.accounts, usize::from(trade.seller), trade.got);
-    add_berth(books.berths, usize::from(trade.buyer) * row + kind);
-    take_berth(books.berths, usize::from(trade.seller) * row + kind);
+    let buyer = usize::from(trade.buyer);
+    let seller = usize::from(trade.seller);
+    change(
+        books.accounts,
+        buyer,
+        |account| account.saturating_sub(trade.paid.0),
+    );
+    change(
+        books.accounts,
+        seller,
+        |account| account.saturating_add(trade.got.0),
+    );
+    change(
+        books.berths,
+        buyer * row + kind,
+        |berths| berths.saturating_add(1),
+    );
+    change(
+        books.berths,
+        seller * row + kind,
+        |berths| berths.saturating_sub(1),
+    );
 }
 
-fn take_money(accounts: &mut [u64], member: usize, price: HalfCents)
-    ensures { accounts.new ≡ changed (paying price.0) member accounts.old }
+// Changes one of the cells by a rule, if there is such a one.
+fn change<T: Copy, F: FnOnce(T) -> T>(cells: &mut [T], at: usize, rule: F)
+    requires { F.IsAlwaysCallable rule }
+    ensures { ChangedBy (F.post rule) at cells.old cells.new }
 {
-    if member < accounts.len() {
-        accounts[member] = accounts[member].saturating_sub(price.0);
-    }
-}
-
-fn add_money(accounts: &mut [u64], member: usize, price: HalfCents)
-    ensures { accounts.new ≡ changed (earning price.0) member accounts.old }
-{
-    if member < accounts.len() {
-        accounts[member] = accounts[member].saturating_add(price.0);
-    }
-}
-
-fn take_berth(berths: &mut [u8], slot: usize)
-    ensures { berths.new ≡ changed one_less slot berths.old }
-{
-    if slot < berths.len() {
-        berths[slot] = berths[slot].saturating_sub(1);
-    }
-}
-
-fn add_berth(berths: &mut [u8], slot: usize)
-    ensures { berths.new ≡ changed one_more slot berths.old }
-{
-    if slot < berths.len() {
-        berths[slot] = berths[slot].saturating_add(1);
+    if at < cells.len() {
+        cells[at] = rule(cells[at]);
     }
 }

@@ -1,8 +1,8 @@
 -- The checker accepts exactly the letters of which each line follows.
 use Rattle.std.proofs.Common.{◌≡◌, ℕ, zero, suc, ◌+◌, ◌*◌, ◌<◌, ◌≤◌, Bool, true, false, cond, ltb, List, [], ◌∷◌, ◌++◌, length, get_or, take, drop, Some, None, Ok, Err, Option, Result, sym, refl, ap, ◌∙◌, inl, inr, arith}
 use Rattle.std.specs.List.{flat_map, AllByRecursion}
-use Rattle.std.proofs.lemmas.List.{length-take, length-drop, length-append, drop_more, drop_all, drop-drop, drop_at, take_at, take-append-drop, get_or-take, get_or-drop, get_or_past}
-use Rattle.std.proofs.lemmas.Bool.{cases_lt, cases_eq, ltb-false, le-ltb, cond-true, cond-false}
+use Rattle.std.proofs.lemmas.List.{length-drop, length-append, drop_more, drop_all, drop-drop, drop_at, take_at, take-append-drop}
+use Rattle.std.proofs.lemmas.Bool.{cases_eq, ltb-false, le-ltb, cond-true, cond-false}
 use Rattle.orders.specs.declared.refusal.Refusal.{Refusal}
 use Rattle.orders.specs.Entries.{kind_row}
 use Rattle.orders.specs.Words.{byte_at}
@@ -13,35 +13,28 @@ use Rattle.letter.specs.Lines.{line_bytes, letter_bytes, line_in}
 use Rattle.letter.specs.Letters.{lines_from}
 use Rattle.letter.specs.Statements.{EveningsAccepted, ReliedOn}
 use Rattle.letter.specs.Checks.{line_place, line_at, is_right, right, line_checked, and_then, checked_from, checked, Follows, Exactly}
-use Rattle.letter.proofs.Digits.{Bytes, front2}
+use Rattle.letter.proofs.Digits.{Bytes, part_bytes, front2}
 use Rattle.letter.proofs.Bounds.{bounded}
 use Rattle.letter.proofs.Spelling.{length_line, read_again, written_read}
 use Rattle.letter.proofs.Stepping.{nothing_left}
 use Rattle.letter.proofs.Evenings.{codes_ranged, lines_follow, relied}
 
--- a test at which an answer is refused was not passed
+-- a test at which an answer is refused was not passed, or was
 not_refused : (t : Bool) (e : Refusal) (r : Result Unit Refusal) → cond t (Err e) r ≡ Ok tt → (t ≡ false) × (r ≡ Ok tt)
-not_refused true e r h = let z : ◌≡◌ {A = ℕ} 0 1 = cc in absurd (omega arith)
+not_refused true e r h = absurd cc
 not_refused false e r h = (refl, h)
 
-passed : (t : Bool) (e : Refusal) → ◌≡◌ {A = Result Unit Refusal} (cond t (Ok tt) (Err e)) (Ok tt) → t ≡ true
-passed true e h = refl
-passed false e h = let z : ◌≡◌ {A = ℕ} 0 1 = cc in absurd (omega arith)
+pub passed : (t : Bool) (r : Result Unit Refusal) (e : Refusal) → cond t r (Err e) ≡ Ok tt → (t ≡ true) × (r ≡ Ok tt)
+passed true r e h = (refl, h)
+passed false r e h = absurd cc
 
 both_accept : (r next : Result Unit Refusal) → and_then r next ≡ Ok tt → (r ≡ Ok tt) × (next ≡ Ok tt)
 both_accept (Ok u) next h = (refl, h)
-both_accept (Err e) next h = let z : ◌≡◌ {A = ℕ} 0 1 = cc in absurd (omega arith)
+both_accept (Err e) next h = absurd cc
 
 right_line : (o : Option Line) → is_right o ≡ true → (l : Line) × (o ≡ Some l) × (follows l ≡ true)
-right_line None h = let z : ◌≡◌ {A = ℕ} 0 1 = cc in absurd (omega arith)
+right_line None h = absurd cc
 right_line (Some l) h = (l, refl, h)
-
-part_bytes : (bs : List ℕ) (n k : ℕ) → Bytes bs → Bytes (take n (drop k bs))
-part_bytes bs n k b i =
-    elim (cases_lt i n) [
-      | inl l ↦ omega (arith, get_or-take n (drop k bs) i 0 l, get_or-drop k bs i 0, b (k + i))
-      | inr l ↦ omega (arith, get_or_past (take n (drop k bs)) i 0 (omega (arith, length-take n (drop k bs))))
-    ]
 
 next_place : (bs : List ℕ) (i : ℕ) → drop 28 (drop (line_place i) bs) ≡ drop (line_place (suc i)) bs
 next_place bs i =
@@ -60,7 +53,7 @@ accepted_from bs b zero i h =
 accepted_from bs b (suc n) i h =
     let e = both_accept (line_checked bs i) (checked_from bs (suc i) n) h in
     let f = not_refused (ltb (length bs) (line_place i + 28)) _ _ e.0 in
-    let r = right_line (line_in (line_at bs i)) (passed _ _ f.1) in
+    let r = right_line (line_in (line_at bs i)) (passed _ _ _ f.1).0 in
     let l = r.0 in
     let o = accepted_from bs b n (suc i) e.1 in
     let w : line_bytes l ≡ line_at bs i = read_again (line_at bs i) l (part_bytes bs 28 (line_place i) b) r.1 in (
@@ -117,7 +110,7 @@ line_right_from bs (suc n) i j l m h =
     elim (cases_eq i j) [
       | inl f ↦
           let g = not_refused (ltb (length bs) (line_place i + 28)) _ _ e.0 in
-          ap (λ k. right (line_at bs k)) (sym f) ∙ passed _ _ g.1
+          ap (λ k. right (line_at bs k)) (sym f) ∙ (passed _ _ _ g.1).0
       | inr d ↦ line_right_from bs n (suc i) j (omega arith) (omega arith) e.1
     ]
 

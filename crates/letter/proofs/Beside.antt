@@ -1,10 +1,11 @@
 -- Where a member stands is seen by comparison with one listed member: that is the same as by its rank.
-use Rattle.std.proofs.Common.{◌≡◌, ℕ, zero, suc, ◌<◌, ◌≤◌, Bool, true, false, cond, eqb, ltb, List, length, get_or, Some, None, Option, sym, refl, ap, ◌∙◌, subst, inl, inr, arith}
+use Rattle.std.proofs.Common.{◌≡◌, ℕ, zero, suc, ◌<◌, ◌≤◌, true, cond, eqb, ltb, List, length, get_or, Some, None, Option, sym, refl, ap, ◌∙◌, subst, inl, inr, arith}
 use Rattle.std.specs.List.{slice_get}
 use Rattle.std.proofs.ByRecursion.{All-get_or}
 use Rattle.std.proofs.lemmas.List.{get_or_past}
 use Rattle.std.proofs.lemmas.Option.{slice_get-get_or, slice_get_past}
-use Rattle.std.proofs.lemmas.Bool.{cases_lt, cases_order, cases_Bool, eqb-true, eq-eqb, ne_eqb, lt-ltb, le-ltb, both_ways}
+use Rattle.std.proofs.lemmas.Bool.Decides.{nat_tests}
+use Rattle.std.proofs.lemmas.Bool.{cases_lt, cases_Bool, lt-ltb, le-ltb, both_ways}
 use Rattle.orders.specs.declared.money.Cents.{Cents}
 use Rattle.orders.specs.declared.money.HalfCents.{HalfCents}
 use Rattle.orders.specs.declared.entry.Entry.{Entry}
@@ -18,8 +19,7 @@ use Rattle.clearing.proofs.Placing.{ordered_at}
 use Rattle.clearing.proofs.Rows.{InRow, ranked_in_row, ranked_ordered}
 use Rattle.clearing.proofs.Standing.{placed_at, before_lower_rank, rank_at}
 use Rattle.clearing.proofs.Theorems.{lower_member_first}
-use Rattle.letter.specs.declared.line.Tie.{Tie}
-use Rattle.letter.specs.declared.line.Tie.TheVariants.{NoTie, Before, At, After}
+use Rattle.letter.specs.declared.tie.Tie.TheVariants.{NoTie, Before, At, After}
 use Rattle.letter.specs.Letters.{pair_of, last_pair, tie_word}
 use Rattle.letter.specs.Telling.{cents_or_0, tie_beside, price_beside}
 use Rattle.letter.proofs.Positions.{no_tie}
@@ -46,41 +46,12 @@ pub last_nth : (xs ys : List Ranked) (p : ℕ) →
     pair_of (cents_or_0 (nth_before xs p)) (cents_or_0 (nth_before ys p)) ≡ last_pair (cents_of xs) (cents_of ys) p
 last_nth xs ys zero = refl
 last_nth xs ys (suc n) =
-    ap (λ c. pair_of c (cents_or_0 (slice_get ys n))) (cents_nth xs n) ∙ ap (λ c. pair_of (at_rank (cents_of xs) n) c) (cents_nth ys n)
+    cc (cents_nth xs n, cents_nth ys n)
 
 -- the two ways to tell the order of a tie
-same_order : (i m r n : ℕ) → (i < m → r < n) → (i ≡ m → r ≡ n) → (m < i → n < r) →
-    (ltb i m ≡ ltb (suc r) (suc n)) × (eqb i m ≡ eqb (suc r) (suc n))
-same_order i m r n low same high =
-    elim (cases_order i m) [
-      | inl e ↦ (
-        le-ltb i m (omega arith) ∙ sym (le-ltb (suc r) (suc n) (omega (arith, same e))),
-        eq-eqb i m e ∙ sym (eq-eqb (suc r) (suc n) (ap suc (same e))),
-      )
-      | inr o ↦ elim o [
-        | inl l ↦ (
-          lt-ltb i m l ∙ sym (lt-ltb (suc r) (suc n) (omega (arith, low l))),
-          ne_eqb i m (λ e. omega arith) ∙ sym (ne_eqb (suc r) (suc n) (λ e. omega (arith, low l))),
-        )
-        | inr l ↦ (
-          le-ltb i m (omega arith) ∙ sym (le-ltb (suc r) (suc n) (omega (arith, high l))),
-          ne_eqb i m (λ e. omega arith) ∙ sym (ne_eqb (suc r) (suc n) (λ e. omega (arith, high l))),
-        )
-      ]
-    ]
-
-where_true : (b : Bool) (x y z : Tie) → (b ≡ true → x ≡ y) → cond b x z ≡ cond b y z
-where_true true x y z h = h refl
-where_true false x y z h = refl
-
 tie_same : (c d : ℕ) (i m r n : ℕ) → (c ≡ d → i < m → r < n) → (c ≡ d → i ≡ m → r ≡ n) → (c ≡ d → m < i → n < r) →
     cond (eqb c d) (cond (ltb i m) Before (cond (eqb i m) At After)) NoTie ≡ tie_word c r d (suc n)
-tie_same c d i m r n low same high =
-    where_true (eqb c d) _ _ NoTie
-    (λ e. let f = eqb-true c d e in
-    let o = same_order i m r n (low f) (same f) (high f) in
-    ap (λ t. cond t Before (cond (eqb i m) At After)) o.0
-    ∙ ap (λ t. cond (ltb (suc r) (suc n)) Before (cond t At After)) o.1)
+tie_same c d i m r n low same high = grind (arith, nat_tests)
 
 module _ (row : List Entry) (s : Side) (i : ℕ) (c : Cents) (h : number s row i ≡ Some c) where
   abbrev list : List Ranked

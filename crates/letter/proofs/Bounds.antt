@@ -10,7 +10,7 @@ use Rattle.ranking.specs.declared.ranked.Side.TheVariants.{Buyers, Sellers}
 use Rattle.clearing.specs.Rule.{half_cents}
 use Rattle.letter.specs.declared.line.Line.{Line}
 use Rattle.letter.specs.declared.line.Pair.{Pair}
-use Rattle.letter.specs.declared.line.Tie.{Tie}
+use Rattle.letter.specs.declared.tie.Tie.{Tie}
 use Rattle.letter.specs.Lines.{price_in}
 use Rattle.letter.specs.Following.{of_side, number_or_none, trades, price_of, served, due, same_price, can_stand, follows}
 
@@ -31,8 +31,8 @@ pub record Bounded (l : Line) : Type 0 where
 -- a price said is the price due
 pub same_price_is : (x y : Option HalfCents) → same_price x y ≡ true → x ≡ y
 same_price_is None None h = refl
-same_price_is None (Some y) h = let z : ◌≡◌ {A = ℕ} 0 1 = cc in absurd (omega arith)
-same_price_is (Some x) None h = let z : ◌≡◌ {A = ℕ} 0 1 = cc in absurd (omega arith)
+same_price_is None (Some y) h = absurd cc
+same_price_is (Some x) None h = absurd cc
 same_price_is (Some x) (Some y) h = ap (λ n. Some (half_cents n)) (eqb-true x.0 y.0 h)
 
 pub price_same : (x : Option HalfCents) → same_price x x ≡ true
@@ -93,8 +93,4 @@ parts k s c x l n w = record { kind = k; side = s; cents = c; price = x; last = 
 
 pub same_line : (k : ℕ) (s : Side) (c : Cents) {x x' : Option HalfCents} {l l' n n' : Pair} {w w' : Tie} → x ≡ x' → l ≡ l' → n ≡ n' →
     w ≡ w' → parts k s c x l n w ≡ parts k s c x' l' n' w'
-same_line k s c {x} {x'} {l} {l'} {n} {n'} {w} {w'} e f g h =
-    ap (λ y. parts k s c y l n w) e
-    ∙ ap (λ y. parts k s c x' y n w) f
-    ∙ ap (λ y. parts k s c x' l' y w) g
-    ∙ ap (parts k s c x' l' n') h
+same_line k s c e f g h = cc

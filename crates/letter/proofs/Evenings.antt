@@ -1,7 +1,8 @@
 -- The same over rows of entries, and over whole letters.
-use Rattle.std.proofs.Common.{◌≡◌, ℕ, zero, suc, ◌-◌, ◌*◌, ◌<◌, Bool, true, false, cond, ◌&&◌, eqb, ltb, leb, ◌⊎◌, List, length, get_or, take, drop, Some, None, Option, unwrap_or, sym, refl, ap, ◌∙◌, subst, inl, inr, arith}
+use Rattle.std.proofs.Common.{◌≡◌, ℕ, zero, suc, ◌*◌, ◌<◌, Bool, true, false, cond, ltb, List, length, get_or, take, drop, Some, None, Option, sym, refl, ap, ◌∙◌, arith}
 use Rattle.std.specs.List.{AllByRecursion}
 use Rattle.std.proofs.lemmas.List.{get_or-map, length-map, get_or-take}
+use Rattle.std.proofs.lemmas.Option.{cond_some}
 use Rattle.std.proofs.ByRecursion.{All-get_or, All-append}
 use Rattle.std.proofs.lemmas.Bool.Decides.{nat_tests}
 use Rattle.orders.specs.declared.money.Cents.{Cents}
@@ -14,46 +15,25 @@ use Rattle.ranking.specs.declared.ranked.Side.{Side}
 use Rattle.ranking.specs.declared.ranked.Side.TheVariants.{Buyers, Sellers}
 use Rattle.ranking.specs.declared.ranked.Ranked.{Ranked}
 use Rattle.ranking.specs.Ranks.{own, on_side, ranked}
-use Rattle.clearing.specs.Rule.{cents_of, at_rank, half_cents, pairs, cleared, trades_in}
+use Rattle.clearing.specs.Rule.{cents_of, pairs, cleared, trades_in, price_of}
 use Rattle.clearing.specs.Kind.{number, standing, rank, pairs_in, outcome}
 use Rattle.clearing.proofs.Sides.{other}
-use Rattle.clearing.proofs.Settling.{bids_of, asks_of, price, pairs_are, clears}
+use Rattle.clearing.proofs.Settling.{bids_of, asks_of, pairs_are, clears}
 use Rattle.clearing.proofs.Pairing.{cents_at, length_cents}
 use Rattle.clearing.proofs.Rows.{InRow, ranked_falls, ranked_in_row}
 use Rattle.clearing.proofs.Standing.{member_there, placed_at}
 use Rattle.clearing.proofs.FirstRanks.{only_the_first}
 use Rattle.letter.specs.declared.line.Line.{Line}
 use Rattle.letter.specs.Following.{due, can_stand, follows}
-use Rattle.letter.specs.Letters.{pair_of, pair_at, last_pair, last_of, next_of, tie_of, traded_at, side_price, line_of, entry_lines, kind_lines, lines_from}
+use Rattle.letter.specs.Letters.{pair_at, last_pair, last_of, next_of, tie_of, traded_at, line_of, entry_lines, kind_lines, lines_from}
 use Rattle.letter.specs.Statements.{RowRanged, trades_on, price_on, ByRule, IsOfRow, FirstRanksSuffice}
 use Rattle.letter.proofs.Bounds.{price_is_due, follows_from}
 use Rattle.letter.proofs.Beside.{nobody, own_apart}
 use Rattle.letter.proofs.Told.{Ranged, Lists, last_by, next_by, Said, said_cleared}
 
-one_sort : (s : Side) (t u v : Bool) (b a c : Cents) →
-    on_side s (unwrap_or (cond t (Some Nothing) (cond u (Some (Bid b)) (cond v (Some (Ask a)) None))) Nothing) ≡ Some c →
-    ((u ≡ true) × (b ≡ c)) ⊎ ((v ≡ true) × (a ≡ c))
-one_sort Buyers true u v b a c h = let z : ◌≡◌ {A = ℕ} 0 1 = cc in absurd (omega arith)
-one_sort Buyers false true v b a c h = inl (refl, cc)
-one_sort Buyers false false true b a c h = let z : ◌≡◌ {A = ℕ} 0 1 = cc in absurd (omega arith)
-one_sort Buyers false false false b a c h = let z : ◌≡◌ {A = ℕ} 0 1 = cc in absurd (omega arith)
-one_sort Sellers true u v b a c h = let z : ◌≡◌ {A = ℕ} 0 1 = cc in absurd (omega arith)
-one_sort Sellers false true v b a c h = let z : ◌≡◌ {A = ℕ} 0 1 = cc in absurd (omega arith)
-one_sort Sellers false false true b a c h = inr (refl, cc)
-one_sort Sellers false false false b a c h = let z : ◌≡◌ {A = ℕ} 0 1 = cc in absurd (omega arith)
-
-bid_ranged : (n : ℕ) → (ltb 16777216 n && leb n 26777216) ≡ true → in_range (n - 16777216) ≡ true
-bid_ranged n h = grind (arith, nat_tests)
-
-ask_ranged : (n : ℕ) → (ltb 33554432 n && leb n 43554432) ≡ true → in_range (n - 33554432) ≡ true
-ask_ranged n h = grind (arith, nat_tests)
-
 entry_ranged : (s : Side) (n : ℕ) (c : Cents) → on_side s (entry_of n) ≡ Some c → in_range c.0 ≡ true
-entry_ranged s n c h =
-    elim (one_sort s (eqb n 0) (ltb 16777216 n && leb n 26777216) (ltb 33554432 n && leb n 43554432) _ _ c h) [
-      | inl p ↦ ap (λ (x : Cents). in_range x.0) (sym p.1) ∙ bid_ranged n p.0
-      | inr p ↦ ap (λ (x : Cents). in_range x.0) (sym p.1) ∙ ask_ranged n p.0
-    ]
+entry_ranged Buyers n c h = grind (arith, nat_tests)
+entry_ranged Sellers n c h = grind (arith, nat_tests)
 
 pub codes_ranged : (ns : List ℕ) → RowRanged (row_of ns)
 codes_ranged ns s i c h =
@@ -92,7 +72,7 @@ module _ (row : List Entry) (rr : RowRanged row) (s : Side) (i : ℕ) (c : Cents
 
   said : Said s mine theirs place c.0 (pairs (bids_of s mine theirs) (asks_of s mine theirs))
       (trades_in (cleared (bids_of s mine theirs) (asks_of s mine theirs)))
-      (price s (cleared (bids_of s mine theirs) (asks_of s mine theirs)))
+      (price_of s (cleared (bids_of s mine theirs) (asks_of s mine theirs)))
       (last_by s mine theirs (pairs (bids_of s mine theirs) (asks_of s mine theirs)))
       (next_by s mine theirs (pairs (bids_of s mine theirs) (asks_of s mine theirs)))
   said = said_cleared s mine theirs place c.0 lists _ _ _ (pairs_are s mine theirs) (clears s mine theirs)
@@ -114,15 +94,13 @@ SaidOfRow s row i c =
 
 said_of_row : (row : List Entry) → RowRanged row → (s : Side) (i : ℕ) (c : Cents) → number s row i ≡ Some c → SaidOfRow s row i c
 said_of_row row rr Buyers i c h =
-    subst
-    (λ l. Said Buyers (mine row rr Buyers i c h) (theirs row rr Buyers i c h) (place row rr Buyers i c h) c.0 (pairs_in own row)
-    (trades_in (outcome own row)) (side_price Buyers (outcome own row)) l (next_of row))
-    (last_buyers _ _ (pairs_in own row)) (said row rr Buyers i c h)
+    let q = said row rr Buyers i c h in
+    let l = last_buyers (mine row rr Buyers i c h) (theirs row rr Buyers i c h) (pairs_in own row) in
+    (cc (q.0, l), cc (q.1, l))
 said_of_row row rr Sellers i c h =
-    subst
-    (λ l. Said Sellers (mine row rr Sellers i c h) (theirs row rr Sellers i c h) (place row rr Sellers i c h) c.0 (pairs_in own row)
-    (trades_in (outcome own row)) (side_price Sellers (outcome own row)) l (next_of row))
-    (last_sellers _ _ (pairs_in own row)) (said row rr Sellers i c h)
+    let q = said row rr Sellers i c h in
+    let l = last_sellers (theirs row rr Sellers i c h) (mine row rr Sellers i c h) (pairs_in own row) in
+    (cc (q.0, l), cc (q.1, l))
 
 pub line_follows : (row : List Entry) → RowRanged row → (s : Side) (k i : ℕ) (c : Cents) → number s row i ≡ Some c →
     follows (line_of s k row i c) ≡ true
@@ -145,15 +123,8 @@ lines_follow M codes i (suc n) k =
     (entry_follows k (kind_row M codes k) (codes_ranged (take M (drop (k * M) codes))) i _ refl) (lines_follow M codes i n (suc k))
 
 -- what a member relies on
-some_same : {A : Type 0} {x y : A} → Some x ≡ Some y → x ≡ y
-some_same h = cc
-
-traded_cond : (t : Bool) (n : ℕ) (π : HalfCents) → cond t (Some (half_cents n)) None ≡ Some π → (t ≡ true) × (π.0 ≡ n)
-traded_cond true n π h = (refl, ap (λ (x : HalfCents). x.0) (sym (some_same h)))
-traded_cond false n π h = let z : ◌≡◌ {A = ℕ} 0 1 = cc in absurd (omega arith)
-
 untraded_cond : (t : Bool) (π : HalfCents) → cond t (Some π) None ≡ None → t ≡ false
-untraded_cond true π h = let z : ◌≡◌ {A = ℕ} 0 1 = cc in absurd (omega arith)
+untraded_cond true π h = absurd cc
 untraded_cond false π h = refl
 
 -- a member's trade in the words of the rule
@@ -162,7 +133,7 @@ trades_is : (s : Side) (row : List Entry) (i : ℕ) (c : Cents) → number s row
 trades_is Buyers row i c h = rw h
 trades_is Sellers row i c h = rw h
 
-price_is : (s : Side) (row : List Entry) → price_on s row ≡ side_price s (outcome own row)
+price_is : (s : Side) (row : List Entry) → price_on s row ≡ price_of s (outcome own row)
 price_is Buyers row = refl
 price_is Sellers row = refl
 
@@ -171,19 +142,16 @@ by_rule : (s : Side) (row : List Entry) (i : ℕ) (c : Cents) → number s row i
 by_rule s row i c h p e =
     record {
       traded = λ π f.
-          let q = traded_cond _ _ π (sym e ∙ f) in
-          (trades_is s row i c h ∙ q.0, q.1 ∙ sym (price_is s row));
+          let q = cond_some _ _ π (sym e ∙ f) in
+          (trades_is s row i c h ∙ q.0, ap (λ (x : HalfCents). x.0) (sym q.1) ∙ sym (price_is s row));
       not_traded = λ f. trades_is s row i c h ∙ untraded_cond _ _ (sym e ∙ f);
     }
 
 pub price_of_row : (row : List Entry) → RowRanged row → (i : ℕ) (l : Line) → follows l ≡ true → IsOfRow l row i →
     l.price ≡ traded_at l.side row i l.cents
 price_of_row row rr i l f o =
-    price_is_due l f
-    ∙ ap (λ x. due l.side l.cents.0 x l.next l.tie) o.last
-    ∙ ap (λ x. due l.side l.cents.0 (last_of row) x l.tie) o.next
-    ∙ ap (λ x. due l.side l.cents.0 (last_of row) (next_of row) x) o.tie
-    ∙ (said_of_row row rr l.side i l.cents o.entry).1
+    let q = said_of_row row rr l.side i l.cents o.entry in
+    cc (price_is_due l f, o.last, o.next, o.tie, q.1)
 
 pub relied : (row : List Entry) → RowRanged row → (i : ℕ) (l : Line) → follows l ≡ true → IsOfRow l row i →
     ByRule l.side row i l.price
@@ -191,8 +159,7 @@ relied row rr i l f o = by_rule l.side row i l.cents o.entry l.price (price_of_r
 
 -- the first ranks suffice
 pair_take : (n k : ℕ) (bs as' : List ℕ) → k < n → pair_at (take n bs) (take n as') k ≡ pair_at bs as' k
-pair_take n k bs as' l =
-    ap (λ x. pair_of x (at_rank (take n as') k)) (get_or-take n bs k 0 l) ∙ ap (λ x. pair_of (at_rank bs k) x) (get_or-take n as' k 0 l)
+pair_take n k bs as' l = cc (get_or-take n bs k 0 l, get_or-take n as' k 0 l)
 
 last_take : (n p : ℕ) (bs as' : List ℕ) → p < n → last_pair (take n bs) (take n as') p ≡ last_pair bs as' p
 last_take n zero bs as' l = refl

@@ -1,7 +1,6 @@
 -- A line that was written part by part, and a letter whose head was written last.
-use Rattle.std.proofs.Common.{◌≡◌, ℕ, ◌+◌, ◌*◌, ◌/◌, ◌%◌, ◌≤◌, List, [], ◌∷◌, ◌++◌, length, get_or, take, drop, Some, None, Option, sym, refl, ap, ◌∙◌, arith}
+use Rattle.std.proofs.Common.{◌≡◌, ℕ, ◌+◌, ◌*◌, ◌/◌, ◌%◌, ◌≤◌, List, [], ◌∷◌, ◌++◌, length, get_or, take, drop, Option, sym, refl, ap, ◌∙◌, arith}
 use Rattle.std.proofs.lemmas.List.{length-take, length-append, append_assoc, drop_at}
-use Rattle.std.specs.Option.{option_to_list}
 use Rattle.orders.specs.declared.money.HalfCents.{HalfCents}
 use Rattle.sheet.specs.Words.{bytes2, bytes4}
 use Rattle.sheet.specs.Writing.{written_at}
@@ -9,6 +8,7 @@ use Rattle.sheet.proofs.Written.{Wrote, wrote_then, written_then, written_none}
 use Rattle.letter.specs.declared.line.Line.{Line}
 use Rattle.letter.specs.declared.line.Pair.{Pair}
 use Rattle.std.specs.List.{flat_map}
+use Rattle.std.proofs.lemmas.List.Concat.{flat_map-append}
 use Rattle.letter.proofs.Spelling.{length_line}
 use Rattle.letter.specs.Lines.{entry_bytes, trade_bytes, pair_bytes, tie_byte, line_bytes, letter_bytes}
 
@@ -51,11 +51,6 @@ pub length_lines : (ls : List Line) → length (flat_map line_bytes ls) ≡ 28 *
 length_lines [] = refl
 length_lines (l ∷ ls) = omega (arith, length-append (line_bytes l) (flat_map line_bytes ls), length_line l, length_lines ls)
 
-joined_both : (xs ys : List Line) → flat_map line_bytes (xs ++ ys) ≡ flat_map line_bytes xs ++ flat_map line_bytes ys
-joined_both [] ys = refl
-joined_both (x ∷ xs) ys =
-    ap (λ r. line_bytes x ++ r) (joined_both xs ys) ∙ sym (append_assoc (line_bytes x) (flat_map line_bytes xs) (flat_map line_bytes ys))
-
 -- lines that are left, written behind so many, give what all lines give
 abbrev pub Leads : List Line → List Line → ℕ → List ℕ → List ℕ → Type 0
 Leads whole left lines old new =
@@ -69,7 +64,7 @@ leads_more whole left left' ls lines lines' old new new' h e f g room =
     let n = length_lines ls in
     let end : 3 + 28 * lines' ≡ 3 + 28 * lines + length (flat_map line_bytes ls) = omega arith in (
       h.0 ∙ ap (λ x. written_at (3 + 28 * lines) (flat_map line_bytes x) new) e
-          ∙ ap (λ x. written_at (3 + 28 * lines) x new) (joined_both ls left')
+          ∙ ap (λ x. written_at (3 + 28 * lines) x new) (flat_map-append line_bytes ls left')
           ∙ sym (written_then (3 + 28 * lines) (3 + 28 * lines') (flat_map line_bytes ls) (flat_map line_bytes left') new end (omega arith))
           ∙ ap (written_at (3 + 28 * lines') (flat_map line_bytes left')) (sym g),
       omega (arith, h.1, ap length e, length-append ls left'),
@@ -91,10 +86,6 @@ head_last head body old n e h =
     ∙ ap (λ r. head ++ r) (drop_at (take n old) (body ++ drop (n + length body) old) n (omega (arith, length-take n old)))
     ∙ sym (append_assoc head body (drop (n + length body) old))
     ∙ ap (λ k. (head ++ body) ++ drop k old) (omega (arith, e, length-append head body))
-
-pub at_most_one : {A : Type 0} (o : Option A) → length (option_to_list o) ≤ 1
-at_most_one None = omega arith
-at_most_one (Some x) = omega arith
 
 -- a letter: its lines, and then its head
 pub wrote_letter : (member lines : ℕ) (ls : List Line) (two old mid new : List ℕ) → lines ≡ length ls → 3 + 28 * lines ≤ length old →

@@ -1,8 +1,8 @@
 -- The letter told by the sheet of the entries is the letter by the rule.
-use Rattle.std.proofs.Common.{◌≡◌, ℕ, zero, suc, ◌+◌, ◌*◌, ◌<◌, ◌≤◌, Bool, true, false, cond, List, [], ◌∷◌, ◌++◌, length, get_or, take, drop, Some, Ok, Err, Result, sym, refl, ap, ◌∙◌, arith}
+use Rattle.std.proofs.Common.{◌≡◌, ℕ, zero, suc, ◌+◌, ◌*◌, ◌<◌, ◌≤◌, true, cond, List, [], ◌∷◌, ◌++◌, length, get_or, take, drop, Some, Ok, Err, Result, sym, refl, ap, ◌∙◌, arith}
 use Rattle.std.specs.List.{slice_get}
 use Rattle.std.proofs.lemmas.Nat.{mul-add-lt}
-use Rattle.std.proofs.lemmas.List.{get_or-map, get_or-take, get_or-drop, length-take, length-drop}
+use Rattle.std.proofs.lemmas.List.{get_or-map, length-take, length-drop}
 use Rattle.std.proofs.lemmas.Bool.{and_parts, and_from, cond-true, leb-true, ltb-true}
 use Rattle.orders.specs.declared.money.Cents.{Cents}
 use Rattle.orders.specs.declared.entry.Entry.{Entry}
@@ -14,8 +14,8 @@ use Rattle.ranking.specs.declared.ranked.Side.{Side}
 use Rattle.ranking.specs.declared.ranked.Side.TheVariants.{Buyers, Sellers}
 use Rattle.ranking.specs.Ranks.{own, on_side, ranked}
 use Rattle.clearing.specs.declared.outcome.Outcome.{Outcome}
-use Rattle.clearing.specs.Rule.{at_rank, half_cents, trades_in, buyers_pay, sellers_get}
-use Rattle.clearing.specs.Kind.{number, standing, rank, pairs_in, bids, asks, outcome}
+use Rattle.clearing.specs.Rule.{half_cents, trades_in, buyers_pay, sellers_get, price_of}
+use Rattle.clearing.specs.Kind.{number, standing, pairs_in, bids, asks, outcome}
 use Rattle.clearing.proofs.Critical.{Cleared, none, one_price, two_prices}
 use Rattle.clearing.proofs.Settling.{pairs_are, clears}
 use Rattle.clearing.proofs.Pairing.{length_cents}
@@ -26,14 +26,15 @@ use Rattle.sheet.specs.Writing.{fits, written_at}
 use Rattle.sheet.proofs.Extents.{kind_writable}
 use Rattle.sheet.proofs.Sections.{read_back, listed_row, first_listable}
 use Rattle.letter.specs.Following.{of_side}
-use Rattle.letter.specs.Letters.{pair_of, last_of, next_of, tie_word, tie_of, traded_at, side_price, line_of, entry_lines, kind_lines, lines_from, letter_of}
+use Rattle.letter.specs.Letters.{pair_of, last_of, next_of, tie_of, traded_at, line_of, entry_lines, kind_lines, lines_from, letter_of}
 use Rattle.letter.specs.Lines.{letter_bytes}
 use Rattle.letter.specs.Statements.{OfEvening}
 use Rattle.letter.specs.Telling.{listed_before, cents_or_0, tie_beside, price_beside, by_side, line_told, entry_told, kind_told, lines_told, kinds_there, letter_told, allowed, write_answer, letter_written, if_allowed}
+use Rattle.letter.proofs.Accepted.{passed}
 use Rattle.letter.proofs.Beside.{nth_before, cents_nth, last_nth, tie_is, price_is}
 use Rattle.letter.proofs.Bounds.{same_line}
 use Rattle.letter.proofs.Evenings.{codes_ranged}
-use Rattle.letter.proofs.KindByKind.{told_from}
+use Rattle.letter.proofs.KindByKind.{told_from, code_at}
 use Rattle.letter.proofs.Positions.{least}
 
 nth_take : {A : Type 0} (n r : ℕ) (xs : List A) → r < n → slice_get (take n xs) r ≡ slice_get xs r
@@ -78,22 +79,20 @@ module _ (M : ℕ) (codes : List ℕ) (k : ℕ) (small : M ≤ 2000) where
 
   last_same : pair_of (cents_or_0 (listed_before (rows Buyers) p)) (cents_or_0 (listed_before (rows Sellers) p)) ≡ last_of row
   last_same =
-      ap (λ x. pair_of (cents_or_0 x) (cents_or_0 (listed_before (rows Sellers) p))) (rank_before Buyers p (omega arith))
-      ∙ ap (λ x. pair_of (cents_or_0 (nth_before (ranked Buyers own row) p)) (cents_or_0 x)) (rank_before Sellers p (omega arith))
-      ∙ last_nth (ranked Buyers own row) (ranked Sellers own row) p
+      let l = last_nth (ranked Buyers own row) (ranked Sellers own row) p in
+      cc (rank_before Buyers p (omega arith), rank_before Sellers p (omega arith), l)
 
   next_same : pair_of (cents_or_0 (listed (rows Buyers) p)) (cents_or_0 (listed (rows Sellers) p)) ≡ next_of row
   next_same =
-      ap (λ x. pair_of (cents_or_0 x) (cents_or_0 (listed (rows Sellers) p))) (listed_rank Buyers p (omega arith))
-      ∙ ap (λ x. pair_of (cents_or_0 (slice_get (ranked Buyers own row) p)) (cents_or_0 x)) (listed_rank Sellers p (omega arith))
-      ∙ ap (λ x. pair_of x (cents_or_0 (slice_get (ranked Sellers own row) p))) (cents_nth (ranked Buyers own row) p)
-      ∙ ap (λ x. pair_of (at_rank (bids own row) p) x) (cents_nth (ranked Sellers own row) p)
+      let b = cents_nth (ranked Buyers own row) p in
+      let a = cents_nth (ranked Sellers own row) p in
+      cc (listed_rank Buyers p (omega arith), listed_rank Sellers p (omega arith), b, a)
 
   own_rows : (s : Side) → by_side s (rows Buyers) (rows Sellers) ≡ rows s
   own_rows Buyers = refl
   own_rows Sellers = refl
 
-  own_price : (s : Side) → by_side s (half_cents (buyers_pay o)) (half_cents (sellers_get o)) ≡ half_cents (side_price s o)
+  own_price : (s : Side) → by_side s (half_cents (buyers_pay o)) (half_cents (sellers_get o)) ≡ half_cents (price_of s o)
   own_price Buyers = refl
   own_price Sellers = refl
 
@@ -104,18 +103,14 @@ module _ (M : ℕ) (codes : List ℕ) (k : ℕ) (small : M ≤ 2000) where
   module _ (s : Side) (i : ℕ) (c : Cents) (h : number s row i ≡ Some c) where
     tie_told : tie_beside (standing i c) (listed_before (by_side s (rows Buyers) (rows Sellers)) p) ≡ tie_of s row i c
     tie_told =
-        ap (λ b. tie_beside (standing i c) (listed_before b p)) (own_rows s)
-        ∙ ap (tie_beside (standing i c)) (rank_before s p (omega arith))
-        ∙ tie_is row s i c h p (least c.0 (codes_ranged (take M (drop (k * M) codes)) s i c h)) (pairs_within s)
-        ∙ ap (λ n. tie_word c.0 (rank s own row (standing i c)) n p) (own_last s)
+        let t = tie_is row s i c h p (least c.0 (codes_ranged (take M (drop (k * M) codes)) s i c h)) (pairs_within s) in
+        cc (own_rows s, rank_before s p (omega arith), t, own_last s)
 
     price_told : price_beside s (standing i c) (by_side s (half_cents (buyers_pay o)) (half_cents (sellers_get o)))
         (listed_before (by_side s (rows Buyers) (rows Sellers)) (trades_in o)) ≡ traded_at s row i c
     price_told =
-        ap (λ b. price_beside s (standing i c) (by_side s (half_cents (buyers_pay o)) (half_cents (sellers_get o))) (listed_before b (trades_in o))) (own_rows s)
-        ∙ ap (λ x. price_beside s (standing i c) x (listed_before (rows s) (trades_in o))) (own_price s)
-        ∙ ap (price_beside s (standing i c) (half_cents (side_price s o))) (rank_before s (trades_in o) (omega (arith, trades_within)))
-        ∙ price_is row s i c h (trades_in o) (half_cents (side_price s o)) (omega (arith, trades_within, pairs_within s))
+        let t = price_is row s i c h (trades_in o) (half_cents (price_of s o)) (omega (arith, trades_within, pairs_within s)) in
+        cc (own_rows s, own_price s, rank_before s (trades_in o) (omega (arith, trades_within)), t)
 
     line_same : line_told k s (standing i c) p (trades_in o) (half_cents (buyers_pay o)) (half_cents (sellers_get o)) (rows Buyers) (rows Sellers)
         ≡ line_of s k row i c
@@ -140,7 +135,7 @@ module _ (M : ℕ) (codes : List ℕ) (k : ℕ) (small : M ≤ 2000) where
       let n : i < length part = omega (arith, length-take M (drop (k * M) codes), length-drop (k * M) codes) in
       sym
       (get_or-map entry_of part i 0 Nothing n
-      ∙ ap entry_of (get_or-take M (drop (k * M) codes) i 0 l ∙ get_or-drop (k * M) codes i 0))
+      ∙ ap entry_of (code_at M k i codes l))
 
   kind_same : (i : ℕ) (rest : List ℕ) → i < M → k * M + i < length codes →
       kind_told k i (entry_of (get_or codes (k * M + i) 0)) (sheet_of_kind row ++ rest) ≡ kind_lines k M codes i
@@ -177,16 +172,12 @@ pub record Allowed (K M entries i room : ℕ) : Type 0 where
   pub member : i < M
   pub entries_there : K * M ≤ entries
 
-if_ok : (t : Bool) (r : Result Unit Refusal) (e : Refusal) → cond t r (Err e) ≡ Ok tt → (t ≡ true) × (r ≡ Ok tt)
-if_ok true r e h = (refl, h)
-if_ok false r e h = let z : ◌≡◌ {A = ℕ} 0 1 = cc in absurd (omega arith)
-
 in_allowed : (K M entries i room : ℕ) → allowed K M entries i room ≡ Ok tt → Allowed K M entries i room
 in_allowed K M entries i room h =
-    let a = if_ok _ _ _ h in
-    let b = if_ok _ _ _ a.1 in
-    let c = if_ok _ _ _ b.1 in
-    let d = if_ok _ _ _ c.1 in
+    let a = passed _ _ _ h in
+    let b = passed _ _ _ a.1 in
+    let c = passed _ _ _ b.1 in
+    let d = passed _ _ _ c.1 in
     record {
       kinds = leb-true K 64 (and_parts _ _ a.0).1;
       members = leb-true M 2000 (and_parts _ _ b.0).1;

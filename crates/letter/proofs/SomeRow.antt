@@ -15,15 +15,15 @@ use Rattle.ranking.specs.declared.ranked.Ranked.{Ranked}
 use Rattle.ranking.specs.Ranks.{own, before, insert, on_side, entered, ranked_from, ranked}
 use Rattle.clearing.specs.Rule.{cents_of, at_rank, pairs}
 use Rattle.clearing.specs.Kind.{number, standing, rank, pairs_in, bids, asks}
-use Rattle.clearing.proofs.Sides.{other, Good, Better, good_refl, good_same, good_trans}
+use Rattle.clearing.proofs.Sides.{other, Good, good_refl, good_same, good_trans}
 use Rattle.clearing.proofs.Critical.{Pairs}
 use Rattle.clearing.proofs.Settling.{bids_of, asks_of, pairs_are}
 use Rattle.clearing.proofs.Rows.{InRow, ranked_in_row, entry, stands}
 use Rattle.clearing.proofs.Standing.{rank_at}
 use Rattle.letter.specs.declared.line.Line.{Line}
 use Rattle.letter.specs.declared.line.Pair.{Pair}
-use Rattle.letter.specs.declared.line.Tie.{Tie}
-use Rattle.letter.specs.declared.line.Tie.TheVariants.{NoTie, Before, At, After}
+use Rattle.letter.specs.declared.tie.Tie.{Tie}
+use Rattle.letter.specs.declared.tie.Tie.TheVariants.{NoTie, Before, At, After}
 use Rattle.letter.specs.Following.{of_side, possible, ahead, behind, tie_holds, follows}
 use Rattle.letter.specs.Letters.{pair_at, last_pair, last_of, next_of, tie_word, tie_of}
 use Rattle.letter.specs.Statements.{RowRanged, IsOfRow, OfSomeRow, PossibleLines}
@@ -149,14 +149,14 @@ stand_ranged : (s : Side) (xs : List ℕ) → Ranged xs → (t : Side) (i : ℕ)
 stand_ranged s [] r t i c h = absurd (nothing_there t c h)
   where
     nothing_there : (t : Side) (c : Cents) → on_side t Nothing ≡ Some c → ⊥
-    nothing_there Buyers c h = let z : ◌≡◌ {A = ℕ} 0 1 = cc in omega arith
-    nothing_there Sellers c h = let z : ◌≡◌ {A = ℕ} 0 1 = cc in omega arith
+    nothing_there Buyers c h = cc
+    nothing_there Sellers c h = cc
 stand_ranged s (x ∷ xs) r t zero c h = ap (λ (y : Cents). in_range y.0) (sym (own_number s t x c h)) ∙ r 0 (omega arith)
   where
     own_number : (s t : Side) (x : ℕ) (c : Cents) → on_side t (entry s (record { 0 = x })) ≡ Some c → record { 0 = x } ≡ c
     own_number Buyers Buyers x c h = cc
-    own_number Buyers Sellers x c h = let z : ◌≡◌ {A = ℕ} 0 1 = cc in absurd (omega arith)
-    own_number Sellers Buyers x c h = let z : ◌≡◌ {A = ℕ} 0 1 = cc in absurd (omega arith)
+    own_number Buyers Sellers x c h = absurd cc
+    own_number Sellers Buyers x c h = absurd cc
     own_number Sellers Sellers x c h = cc
 stand_ranged s (x ∷ xs) r t (suc i) c h = stand_ranged s xs (λ k l. r (suc k) (omega arith)) t i c h
 
@@ -213,18 +213,10 @@ module _ (l : Line) (f : follows l ≡ true) where
         ∙ one_count s w.xs w.ys _ _ (pairs_are s w.xs w.ys) w.paired
 
     last_is : last_of row ≡ l.last
-    last_is =
-        ap (last_pair (bids own row) (asks own row)) count
-        ∙ ap (λ b. last_pair b (asks own row) w.p) sides.0
-        ∙ ap (λ a. last_pair (bids_of s w.xs w.ys) a w.p) sides.1
-        ∙ last_sided s w.xs w.ys w.p ∙ w.last ∙ sided_of s l.last
+    last_is = cc (count, sides.0, sides.1, last_sided s w.xs w.ys w.p, w.last, sided_of s l.last)
 
     next_is : next_of row ≡ l.next
-    next_is =
-        ap (pair_at (bids own row) (asks own row)) count
-        ∙ ap (λ b. pair_at b (asks own row) w.p) sides.0
-        ∙ ap (λ a. pair_at (bids_of s w.xs w.ys) a w.p) sides.1
-        ∙ next_sided s w.xs w.ys w.p ∙ w.next ∙ sided_of s l.next
+    next_is = cc (count, sides.0, sides.1, next_sided s w.xs w.ys w.p, w.next, sided_of s l.next)
 
     mine_is : get_or (ranked s own row) w.j nobody ≡ standing w.j l.cents
     mine_is =
@@ -245,10 +237,7 @@ module _ (l : Line) (f : follows l ≡ true) where
     place_is = ap (rank s own row) (sym mine_is) ∙ rank_at s own row (own_apart row) w.j nobody in_list
 
     tie_is : tie_of s row w.j l.cents ≡ l.tie
-    tie_is =
-        ap (λ r. tie_word l.cents.0 r (of_side s (last_of row)) (pairs_in own row)) place_is
-        ∙ ap (λ p. tie_word l.cents.0 w.j (of_side s p) (pairs_in own row)) last_is
-        ∙ ap (tie_word l.cents.0 w.j (of_side s l.last)) count ∙ w.tie
+    tie_is = cc (place_is, last_is, count, w.tie)
 
     of_row : IsOfRow l row w.j
     of_row = record { entry = entry_is; last = sym last_is; next = sym next_is; tie = sym tie_is }
@@ -316,54 +305,21 @@ next_in_range : (s : Side) (L P N Q : ℕ) → possible (sided s L P) (sided s N
 next_in_range Buyers L P N Q h n = grind (arith, nat_tests)
 next_in_range Sellers L P N Q h n = grind (arith, nat_tests)
 
-other_in_range : (s : Side) (L P N Q : ℕ) → possible (sided s L P) (sided s N Q) ≡ true → 1 ≤ Q → in_range Q ≡ true
-other_in_range Buyers L P N Q h n = grind (arith, nat_tests)
-other_in_range Sellers L P N Q h n = grind (arith, nat_tests)
-
-not_meeting : (s : Side) (L P N Q : ℕ) → possible (sided s L P) (sided s N Q) ≡ true → 1 ≤ N → 1 ≤ Q → Better s Q N
-not_meeting Buyers L P N Q h n q = grind (arith, nat_tests)
-not_meeting Sellers L P N Q h n q = grind (arith, nat_tests)
-
-numbers : (s : Side) (L P N Q : ℕ) → possible (sided s L P) (sided s N Q) ≡ true → Numbers s L P N Q
-numbers s L P N Q h =
-    record {
-      own_next = elim (number_cases N) [ inl e ↦ inl e | inr l ↦ inr (next_in_range s L P N Q h l) ];
-      other_next = elim (number_cases Q) [ inl e ↦ inl e | inr l ↦ inr (other_in_range s L P N Q h l) ];
-      no_pair = elim (number_cases N) [
-        | inl e ↦ inl e
-        | inr n ↦ elim (number_cases Q) [ inl e ↦ inr (inl e) | inr q ↦ inr (inr (not_meeting s L P N Q h n q)) ]
-      ];
-    }
-
-last_in_range : (s : Side) (L P N Q : ℕ) → possible (sided s L P) (sided s N Q) ≡ true → 1 ≤ L →
-    (in_range L ≡ true) × (in_range P ≡ true) × Good s L P
-last_in_range Buyers L P N Q h n = (grind (arith, nat_tests), grind (arith, nat_tests), grind (arith, nat_tests))
-last_in_range Sellers L P N Q h n = (grind (arith, nat_tests), grind (arith, nat_tests), grind (arith, nat_tests))
-
 next_after : (s : Side) (L P N Q : ℕ) → possible (sided s L P) (sided s N Q) ≡ true → 1 ≤ L → 1 ≤ N → Good s L N
 next_after Buyers L P N Q h l n = grind (arith, nat_tests)
 next_after Sellers L P N Q h l n = grind (arith, nat_tests)
-
-other_after_it : (s : Side) (L P N Q : ℕ) → possible (sided s L P) (sided s N Q) ≡ true → 1 ≤ L → 1 ≤ Q → Good (other s) P Q
-other_after_it Buyers L P N Q h l q = grind (arith, nat_tests)
-other_after_it Sellers L P N Q h l q = grind (arith, nat_tests)
 
 no_last : (s : Side) (L P N Q : ℕ) → possible (sided s L P) (sided s N Q) ≡ true → L ≡ 0 → P ≡ 0
 no_last Buyers L P N Q h e = grind (arith, nat_tests)
 no_last Sellers L P N Q h e = grind (arith, nat_tests)
 
+numbers : (s : Side) (L P N Q : ℕ) → possible (sided s L P) (sided s N Q) ≡ true → Numbers s L P N Q
+numbers Buyers L P N Q h = record { own_next = grind (arith, nat_tests); other_next = grind (arith, nat_tests); no_pair = grind (arith, nat_tests) }
+numbers Sellers L P N Q h = record { own_next = grind (arith, nat_tests); other_next = grind (arith, nat_tests); no_pair = grind (arith, nat_tests) }
+
 last_facts : (s : Side) (L P N Q : ℕ) → possible (sided s L P) (sided s N Q) ≡ true → 1 ≤ L → Last s L P N Q
-last_facts s L P N Q h l =
-    let a = last_in_range s L P N Q h l in
-    record {
-      own = a.0;
-      other_own = a.1;
-      meet = a.2;
-      own_after = elim (number_cases N)
-          [ inl e ↦ inl e | inr n ↦ inr (next_in_range s L P N Q h n, next_after s L P N Q h l n) ];
-      other_after = elim (number_cases Q)
-          [ inl e ↦ inl e | inr q ↦ inr (other_in_range s L P N Q h q, other_after_it s L P N Q h l q) ];
-    }
+last_facts Buyers L P N Q h l = record { own = grind (arith, nat_tests); other_own = grind (arith, nat_tests); meet = grind (arith, nat_tests); own_after = grind (arith, nat_tests); other_after = grind (arith, nat_tests) }
+last_facts Sellers L P N Q h l = record { own = grind (arith, nat_tests); other_own = grind (arith, nat_tests); meet = grind (arith, nat_tests); own_after = grind (arith, nat_tests); other_after = grind (arith, nat_tests) }
 
 stops : (s : Side) (N Q a b : ℕ) → a ≡ N → b ≡ Q → NoPair s N Q → 1 ≤ N → 1 ≤ Q → Good s a b → ⊥
 stops s N Q a b e f (inl z) n q g = omega arith

@@ -1,14 +1,16 @@
 -- A line's bytes are read as the line, and bytes that are read as a line are its bytes.
-use Rattle.std.proofs.Common.{◌≡◌, ℕ, Bool, true, false, cond, ◌&&◌, eqb, ◌⊎◌, List, [], ◌∷◌, ◌++◌, length, drop, Some, None, Option, sym, refl, ap, ◌∙◌, inl, inr, append_assoc, arith}
+use Rattle.std.proofs.Common.{◌≡◌, ℕ, eqb, List, [], ◌∷◌, ◌++◌, length, drop, Some, None, Option, sym, refl, ap, ◌∙◌, inl, inr, append_assoc, arith}
 use Rattle.std.proofs.lemmas.List.{drop_more, drop_all}
-use Rattle.std.proofs.lemmas.Bool.{cases_Bool, eqb-true, eq-eqb, cond-true, cond-false, and_parts}
+use Rattle.std.proofs.lemmas.Option.{none-some, same_Some}
+use Rattle.std.proofs.lemmas.Bool.Decides.{nat_tests}
+use Rattle.std.proofs.lemmas.Bool.{cases_Bool, eqb-true, eq-eqb, cond-true, cond-false}
 use Rattle.orders.specs.declared.money.HalfCents.{HalfCents}
 use Rattle.orders.specs.Words.{byte_at}
 use Rattle.ranking.specs.declared.ranked.Side.{Side}
 use Rattle.ranking.specs.declared.ranked.Side.TheVariants.{Buyers, Sellers}
 use Rattle.letter.specs.declared.line.Line.{Line}
-use Rattle.letter.specs.declared.line.Tie.{Tie}
-use Rattle.letter.specs.declared.line.Tie.TheVariants.{NoTie, Before, At, After}
+use Rattle.letter.specs.declared.tie.Tie.{Tie}
+use Rattle.letter.specs.declared.tie.Tie.TheVariants.{NoTie, Before, At, After}
 use Rattle.sheet.specs.Words.{bytes4}
 use Rattle.letter.specs.Words.{number_at}
 use Rattle.letter.specs.Lines.{side_byte, traded_byte, price_in, tie_byte, side_in, trade_in, tie_in, line_bytes, line_with, line_in}
@@ -19,40 +21,20 @@ pub length_line : (l : Line) → length (line_bytes l) ≡ 28
 unfolding line_bytes bytes4
 length_line l = refl
 
--- a test that is passed, or the next one
-one_of : {A : Type 0} (t : Bool) (x y : A) (o : Option A) → cond t (Some x) o ≡ Some y → ((t ≡ true) × (x ≡ y)) ⊎ (o ≡ Some y)
-one_of true x y o h = inl (refl, cc)
-one_of false x y o h = inr h
-
-none_is_some : {A : Type 0} (P : Type 0) (x : A) → None ≡ Some x → P
-none_is_some P x h = let z : ◌≡◌ {A = ℕ} 0 1 = cc in absurd (omega arith)
-
 -- the words of a line
 side_read : (n : ℕ) (s : Side) → side_in n ≡ Some s → side_byte s ≡ n
-side_read n s h =
-    elim (one_of (eqb n 1) Buyers s _ h) [
-      | inl p ↦ ap side_byte (sym p.1) ∙ sym (eqb-true n 1 p.0)
-      | inr g ↦ elim (one_of (eqb n 2) Sellers s None g)
-          [ inl p ↦ ap side_byte (sym p.1) ∙ sym (eqb-true n 2 p.0) | inr f ↦ none_is_some _ s f ]
-    ]
+side_read n Buyers h = grind (arith, nat_tests)
+side_read n Sellers h = grind (arith, nat_tests)
 
 side_written : (s : Side) → side_in (side_byte s) ≡ Some s
 side_written Buyers = refl
 side_written Sellers = refl
 
 tie_read : (n : ℕ) (w : Tie) → tie_in n ≡ Some w → tie_byte w ≡ n
-tie_read n w h =
-    elim (one_of (eqb n 0) NoTie w _ h) [
-      | inl p ↦ ap tie_byte (sym p.1) ∙ sym (eqb-true n 0 p.0)
-      | inr g ↦ elim (one_of (eqb n 1) Before w _ g) [
-        | inl p ↦ ap tie_byte (sym p.1) ∙ sym (eqb-true n 1 p.0)
-        | inr f ↦ elim (one_of (eqb n 2) At w _ f) [
-          | inl p ↦ ap tie_byte (sym p.1) ∙ sym (eqb-true n 2 p.0)
-          | inr e ↦ elim (one_of (eqb n 3) After w None e)
-              [ inl p ↦ ap tie_byte (sym p.1) ∙ sym (eqb-true n 3 p.0) | inr d ↦ none_is_some _ w d ]
-        ]
-      ]
-    ]
+tie_read n NoTie h = grind (arith, nat_tests)
+tie_read n Before h = grind (arith, nat_tests)
+tie_read n At h = grind (arith, nat_tests)
+tie_read n After h = grind (arith, nat_tests)
 
 tie_written : (w : Tie) → tie_in (tie_byte w) ≡ Some w
 tie_written NoTie = refl
@@ -61,16 +43,8 @@ tie_written At = refl
 tie_written After = refl
 
 trade_read : (n m : ℕ) (t : Option HalfCents) → trade_in n m ≡ Some t → (traded_byte t ≡ n) × (price_in t ≡ m)
-trade_read n m t h =
-    elim (one_of (eqb n 1) _ t _ h) [
-      | inl p ↦ (ap traded_byte (sym p.1) ∙ sym (eqb-true n 1 p.0), ap price_in (sym p.1))
-      | inr g ↦ elim (one_of (eqb n 0 && eqb m 0) None t None g) [
-        | inl p ↦
-            let q = and_parts _ _ p.0 in
-            (ap traded_byte (sym p.1) ∙ sym (eqb-true n 0 q.0), ap price_in (sym p.1) ∙ sym (eqb-true m 0 q.1))
-        | inr f ↦ none_is_some _ t f
-      ]
-    ]
+trade_read n m None h = (grind (arith, nat_tests), grind (arith, nat_tests))
+trade_read n m (Some p) h = (grind (arith, nat_tests), grind (arith, nat_tests))
 
 trade_written : (t : Option HalfCents) (m : ℕ) → price_in t ≡ m → trade_in (traded_byte t) m ≡ Some t
 trade_written None m e = ap (λ n. trade_in 0 n) (sym e)
@@ -91,11 +65,11 @@ pub record Read (bs : List ℕ) (l : Line) : Type 0 where
 read_with : (bs : List ℕ) (l : Line) (s : Option Side) (t : Option (Option HalfCents)) (w : Option Tie) →
     side_in (byte_at bs 1) ≡ s → trade_in (byte_at bs 6) (number_at bs 7) ≡ t → tie_in (byte_at bs 27) ≡ w →
     line_with bs s t w ≡ Some l → Read bs l
-read_with bs l None t w es et ew h = none_is_some _ l h
-read_with bs l (Some s) None w es et ew h = none_is_some _ l h
-read_with bs l (Some s) (Some t) None es et ew h = none_is_some _ l h
+read_with bs l None t w es et ew h = absurd (none-some l h)
+read_with bs l (Some s) None w es et ew h = absurd (none-some l h)
+read_with bs l (Some s) (Some t) None es et ew h = absurd (none-some l h)
 read_with bs l (Some s) (Some t) (Some w) es et ew h =
-    let e = some_same h in
+    let e = same_Some _ l h in
     record {
       kind = ap (λ (x : Line). x.kind) (sym e);
       side = es ∙ ap (λ (x : Line). Some x.side) e;
@@ -107,16 +81,13 @@ read_with bs l (Some s) (Some t) (Some w) es et ew h =
       next_ask = ap (λ (x : Line). x.next.ask.0) (sym e);
       tie = ew ∙ ap (λ (x : Line). Some x.tie) e;
     }
-  where
-    some_same : {x y : Line} → Some x ≡ Some y → x ≡ y
-    some_same g = cc
 
 read : (bs : List ℕ) (l : Line) → line_in bs ≡ Some l → (length bs ≡ 28) × Read bs l
 unfolding line_in
 read bs l h =
     elim (cases_Bool (eqb (length bs) 28)) [
       | inl e ↦ (eqb-true _ _ e, read_with bs l _ _ _ refl refl refl (sym (cond-true _ _ _ e) ∙ h))
-      | inr e ↦ none_is_some _ l (sym (cond-false _ _ _ e) ∙ h)
+      | inr e ↦ absurd (none-some l (sym (cond-false _ _ _ e) ∙ h))
     ]
 
 pub read_again : (bs : List ℕ) (l : Line) → Bytes bs → line_in bs ≡ Some l → line_bytes l ≡ bs
@@ -153,14 +124,34 @@ made k s c t lb la nb na w =
       tie = w;
     }
 
-known : (bs : List ℕ) (l : Line) → length bs ≡ 28 → Read bs l → line_in bs ≡ Some l
+-- a line by its words, each known or not
+pub by_words : (bs : List ℕ) {s : Option Side} {t : Option (Option HalfCents)} {w : Option Tie} → length bs ≡ 28 →
+    side_in (byte_at bs 1) ≡ s → trade_in (byte_at bs 6) (number_at bs 7) ≡ t → tie_in (byte_at bs 27) ≡ w →
+    line_in bs ≡ line_with bs s t w
 unfolding line_in
+by_words bs {s} {t} {w} n e f g =
+    cond-true _ _ _ (eq-eqb (length bs) 28 n)
+    ∙ ap (λ x. line_with bs x (trade_in (byte_at bs 6) (number_at bs 7)) (tie_in (byte_at bs 27))) e
+    ∙ ap (λ x. line_with bs s x (tie_in (byte_at bs 27))) f
+    ∙ ap (λ x. line_with bs s t x) g
+
+pub no_trade : (bs : List ℕ) (s : Option Side) (w : Option Tie) → line_with bs s None w ≡ None
+no_trade bs None w = refl
+no_trade bs (Some s) w = refl
+
+pub no_tie : (bs : List ℕ) (s : Option Side) (t : Option (Option HalfCents)) → line_with bs s t None ≡ None
+no_tie bs None t = refl
+no_tie bs (Some s) None = refl
+no_tie bs (Some s) (Some t) = refl
+
+-- a trade that is neither told nor denied
+pub trade_unknown : (n m : ℕ) → (n ≡ 1 → ⊥) → (n ≡ 0 → m ≡ 0 → ⊥) → trade_in n m ≡ None
+trade_unknown n m h k = grind (arith, nat_tests)
+
+known : (bs : List ℕ) (l : Line) → length bs ≡ 28 → Read bs l → line_in bs ≡ Some l
 known bs l n r =
     let at : ℕ → ℕ = λ i. number_at bs i in
-    cond-true _ _ _ (eq-eqb (length bs) 28 n)
-    ∙ ap (λ s. line_with bs s (trade_in (byte_at bs 6) (at 7)) (tie_in (byte_at bs 27))) r.side
-    ∙ ap (λ t. line_with bs (Some l.side) t (tie_in (byte_at bs 27))) r.price
-    ∙ ap (λ w. line_with bs (Some l.side) (Some l.price) w) r.tie
+    by_words bs n r.side r.price r.tie
     ∙ sym
     (ap (λ k. Some (made k l.side l.cents.0 l.price l.last.bid.0 l.last.ask.0 l.next.bid.0 l.next.ask.0 l.tie)) r.kind
     ∙ ap (λ c. Some (made (byte_at bs 0) l.side c l.price l.last.bid.0 l.last.ask.0 l.next.bid.0 l.next.ask.0 l.tie)) r.cents

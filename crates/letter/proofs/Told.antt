@@ -140,22 +140,23 @@ module _ (s : Side) (xs ys : List ℕ) (r c : ℕ) (ls : Lists s xs ys r c) wher
     stands_here : (t : ℕ) → (r < n → r < t) → (n < r → t ≤ r) → (r ≡ n → served (last s xs ys n) (next s xs ys n) ≡ ltb r t) →
         Stands s c (last s xs ys n) (next s xs ys n) (tie_word c r (at_rank xs n) (suc n)) (ltb r t)
     stands_here t low high at =
+        let L = at_rank xs n in
+        let P = at_rank ys n in
+        let N = at_rank xs (suc n) in
+        let Q = at_rank ys (suc n) in
         elim (cases_order r n) [
           | inl e ↦
-              let f : c ≡ at_rank xs n = sym ls.number ∙ ap (at_rank xs) e in
-              subst (λ b. Stands s c (last s xs ys n) (next s xs ys n) (tie_word c r (at_rank xs n) (suc n)) b) (at e)
-              (subst (λ k. Stands s c (last s xs ys n) (next s xs ys n) (tie_word c k (at_rank xs n) (suc n)) (served (last s xs ys n) (next s xs ys n)))
-              (sym e) (stands_at s c n _ _ _ _ f))
+              let w = stands_at s c n L P N Q (sym ls.number ∙ ap (at_rank xs) e) in
+              (cc (w.0, e), cc (w.1, e, at e))
           | inr o ↦ elim o [
             | inl l ↦
-                subst (λ b. Stands s c (last s xs ys n) (next s xs ys n) (tie_word c r (at_rank xs n) (suc n)) b)
-                (sym (lt-ltb r t (low l)))
-                (stands_before s c r n _ _ _ _ l (least _ (ls.own_ranged n in_own)) (own_good n (omega arith) in_own))
+                let w = stands_before s c r n L P N Q l (least L (ls.own_ranged n in_own)) (own_good n (omega arith) in_own) in
+                (w.0, w.1 ∙ sym (lt-ltb r t (low l)))
             | inr l ↦
-                subst (λ b. Stands s c (last s xs ys n) (next s xs ys n) (tie_word c r (at_rank xs n) (suc n)) b)
-                (sym (le-ltb r t (high l)))
-                (stands_after s c r n _ _ _ _ l (least _ (ls.own_ranged (suc n) (next_in l)))
-                (ls.own_falls n (suc n) (omega arith) (next_in l)) (good_own (suc n) (omega arith)))
+                let w =
+                stands_after s c r n L P N Q l (least N (ls.own_ranged (suc n) (next_in l)))
+                (ls.own_falls n (suc n) (omega arith) (next_in l)) (good_own (suc n) (omega arith)) in
+                (w.0, w.1 ∙ sym (le-ltb r t (high l)))
           ]
         ]
 
@@ -176,14 +177,11 @@ module _ (s : Side) (xs ys : List ℕ) (r c : ℕ) (ls : Lists s xs ys r c) wher
 
   pub said_cleared : (p t π : ℕ) → Pairs s xs ys p → Cleared s xs ys p t π → Said s xs ys r c p t π (last_by s xs ys p) (next_by s xs ys p)
   said_cleared p t π h (none e f) =
-      subst (λ q. Said s xs ys r c q t π (last_by s xs ys q) (next_by s xs ys q)) (sym e)
-      (subst (λ u. Said s xs ys r c 0 u π (last_by s xs ys 0) (next_by s xs ys 0)) (sym f) (said_alone π (subst (Pairs s xs ys) e h)))
+      let w = said_alone π (subst (Pairs s xs ys) e h) in
+      (cc (w.0, e), cc (w.1, e, f))
   said_cleared p t π h (one_price n e v f g) =
-      subst (λ q. Said s xs ys r c q t π (last_by s xs ys q) (next_by s xs ys q)) (sym e)
-      (subst (λ u. Said s xs ys r c (suc n) u π (last_by s xs ys (suc n)) (next_by s xs ys (suc n))) (sym f)
-      (subst (λ m. Said s xs ys r c (suc n) (suc n) m (last_by s xs ys (suc n)) (next_by s xs ys (suc n))) (sym g)
-      (said_one_price n (subst (Pairs s xs ys) e h) v)))
+      let w = said_one_price n (subst (Pairs s xs ys) e h) v in
+      (cc (w.0, e), cc (w.1, e, f, g))
   said_cleared p t π h (two_prices n e v f g) =
-      subst (λ q. Said s xs ys r c q t π (last_by s xs ys q) (next_by s xs ys q)) (sym e)
-      (subst (λ u. Said s xs ys r c (suc n) u π (last_by s xs ys (suc n)) (next_by s xs ys (suc n))) (sym f)
-      (said_two_prices n (subst (Pairs s xs ys) e h) π v g))
+      let w = said_two_prices n (subst (Pairs s xs ys) e h) π v g in
+      (cc (w.0, e), cc (w.1, e, f))

@@ -10,8 +10,8 @@ use Rattle.ranking.specs.Ranks.{better}
 use Rattle.clearing.specs.Rule.{serves, half_cents}
 use Rattle.letter.specs.declared.line.Line.{Line}
 use Rattle.letter.specs.declared.line.Pair.{Pair}
-use Rattle.letter.specs.declared.line.Tie.{Tie}
-use Rattle.letter.specs.declared.line.Tie.TheVariants.{NoTie, Before, At, After}
+use Rattle.letter.specs.declared.tie.Tie.{Tie}
+use Rattle.letter.specs.declared.tie.Tie.TheVariants.{NoTie, Before, At, After}
 
 -- the number of a side in a pair
 abbrev pub of_side : Side → Pair → ℕ

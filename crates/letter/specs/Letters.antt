@@ -10,13 +10,12 @@ use Rattle.orders.specs.Entries.{kind_row}
 use Rattle.ranking.specs.declared.ranked.Side.{Side}
 use Rattle.ranking.specs.declared.ranked.Side.TheVariants.{Buyers, Sellers}
 use Rattle.ranking.specs.Ranks.{own}
-use Rattle.clearing.specs.declared.outcome.Outcome.{Outcome}
-use Rattle.clearing.specs.Rule.{at_rank, half_cents, buyers_pay, sellers_get}
+use Rattle.clearing.specs.Rule.{at_rank, half_cents, price_of}
 use Rattle.clearing.specs.Kind.{bids, asks, pairs_in, outcome, standing, rank, trades_with}
 use Rattle.letter.specs.declared.line.Line.{Line}
 use Rattle.letter.specs.declared.line.Pair.{Pair}
-use Rattle.letter.specs.declared.line.Tie.{Tie}
-use Rattle.letter.specs.declared.line.Tie.TheVariants.{NoTie, Before, At, After}
+use Rattle.letter.specs.declared.tie.Tie.{Tie}
+use Rattle.letter.specs.declared.tie.Tie.TheVariants.{NoTie, Before, At, After}
 use Rattle.letter.specs.Following.{of_side}
 use Rattle.letter.specs.Lines.{letter_bytes}
 
@@ -45,14 +44,9 @@ tie_word c r last p = cond (c == last) (cond (nat_lt (suc r) p) Before (cond (su
 abbrev pub tie_of : Side → List Entry → ℕ → Cents → Tie
 tie_of s row i c = tie_word c.0 (rank s own row (standing i c)) (of_side s (last_of row)) (pairs_in own row)
 
--- what a side pays or gets
-abbrev pub side_price : Side → Outcome → ℕ
-side_price Buyers o = buyers_pay o
-side_price Sellers o = sellers_get o
-
 -- the price at which a member with a number trades, if it does
 abbrev pub traded_at : Side → List Entry → ℕ → Cents → Option HalfCents
-traded_at s row i c = cond (trades_with s own row i (Some c)) (Some (half_cents (side_price s (outcome own row)))) None
+traded_at s row i c = cond (trades_with s own row i (Some c)) (Some (half_cents (price_of s (outcome own row)))) None
 
 abbrev pub line_of : Side → ℕ → List Entry → ℕ → Cents → Line
 line_of s k row i c =

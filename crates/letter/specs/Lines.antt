@@ -11,8 +11,8 @@ use Rattle.ranking.specs.declared.ranked.Side.TheVariants.{Buyers, Sellers}
 use Rattle.clearing.specs.Rule.{half_cents}
 use Rattle.letter.specs.declared.line.Line.{Line}
 use Rattle.letter.specs.declared.line.Pair.{Pair}
-use Rattle.letter.specs.declared.line.Tie.{Tie}
-use Rattle.letter.specs.declared.line.Tie.TheVariants.{NoTie, Before, At, After}
+use Rattle.letter.specs.declared.tie.Tie.{Tie}
+use Rattle.letter.specs.declared.tie.Tie.TheVariants.{NoTie, Before, At, After}
 use Rattle.sheet.specs.Words.{bytes2, bytes4}
 use Rattle.letter.specs.Words.{number_at}
 

@@ -16,11 +16,13 @@ use Rattle.ranking.specs.declared.ranked.Side.TheVariants.{Buyers, Sellers}
 use Rattle.ranking.specs.declared.ranked.Ranked.{Ranked}
 use Rattle.ranking.specs.Ranks.{own, before}
 use Rattle.clearing.specs.Kind.{standing}
+use Rattle.sheet.specs.declared.section.Section.{Section}
 use Rattle.sheet.specs.Sections.{has_kind, buyers_in, sellers_in, past_kind, listed}
 use Rattle.sheet.specs.Writing.{written_at}
 use Rattle.letter.specs.declared.line.Line.{Line}
-use Rattle.letter.specs.declared.line.Tie.{Tie}
-use Rattle.letter.specs.declared.line.Tie.TheVariants.{NoTie, Before, At, After}
+use Rattle.letter.specs.declared.tie.Tie.{Tie}
+use Rattle.letter.specs.declared.writing.Published.{Published}
+use Rattle.letter.specs.declared.tie.Tie.TheVariants.{NoTie, Before, At, After}
 use Rattle.letter.specs.Letters.{pair_of}
 use Rattle.letter.specs.Lines.{letter_bytes}
 
@@ -67,6 +69,15 @@ entry_told k i Nothing p t pay get buyers sellers = []
 entry_told k i (Bid c) p t pay get buyers sellers = line_told k Buyers (standing i c) p t pay get buyers sellers ∷ []
 entry_told k i (Ask c) p t pay get buyers sellers = line_told k Sellers (standing i c) p t pay get buyers sellers ∷ []
 
+-- both of what a sheet says of a kind
+abbrev pub line_in_section : ℕ → Side → Ranked → Section → Line
+line_in_section k s x c =
+    line_told k s x c.pairs c.trades c.buyers_price c.sellers_price c.buyers.bytes.now c.sellers.bytes.now
+
+abbrev pub entry_in_section : ℕ → ℕ → Entry → Section → List Line
+entry_in_section k i e c =
+    entry_told k i e c.pairs c.trades c.buyers_price c.sellers_price c.buyers.bytes.now c.sellers.bytes.now
+
 -- the same from bytes that begin with the kind
 unfoldable pub kind_told : ℕ → ℕ → Entry → List ℕ → List Line
 kind_told k i e bs =
@@ -104,6 +115,10 @@ abbrev pub if_allowed : Result Unit Refusal → Result ℕ Refusal → Result �
 if_allowed (Ok u) answer = answer
 if_allowed (Err why) answer = Err why
 
+-- a sheet is refused if it ends before its last kind
+abbrev pub sheet_checked : ℕ → List ℕ → Result Unit Refusal
+sheet_checked K sheet = cond (kinds_there K sheet) (Ok tt) (Err (Ends (length sheet)))
+
 -- THE ANSWER: how long the letter is; or why it is not written
 abbrev pub write_answer : ℕ → ℕ → List ℕ → List ℕ → ℕ → ℕ → Result ℕ Refusal
 write_answer K M codes sheet i room =
@@ -114,3 +129,13 @@ write_answer K M codes sheet i room =
 abbrev pub letter_written : Result ℕ Refusal → List ℕ → List ℕ → List ℕ
 letter_written (Ok n) letter old = written_at 0 letter old
 letter_written (Err why) letter old = old
+
+-- the same of what is published of an evening
+abbrev pub lines_by : Published → ℕ → List Line
+lines_by p i = lines_told p.extent.members p.entries.now i p.extent.kinds 0 p.sheet.now
+
+abbrev pub letter_by : Published → ℕ → List ℕ
+letter_by p i = letter_told p.extent.kinds p.extent.members p.entries.now p.sheet.now i
+
+abbrev pub answer_by : Published → ℕ → ℕ → Result ℕ Refusal
+answer_by p i room = write_answer p.extent.kinds p.extent.members p.entries.now p.sheet.now i room

@@ -1,11 +1,12 @@
 // The bytes of a line.
 ghost use Rattle.std.specs.Prelude.{◌≡◌, ◌+◌, ◌≤◌, length};
 ghost use Rattle.sheet.specs.Writing.{written_at};
-ghost use Rattle.letter.specs.Lines.{side_byte, tie_byte, entry_bytes, trade_bytes, pair_bytes, line_bytes};
+ghost use Rattle.letter.specs.Lines.{side_byte, entry_bytes, trade_bytes, pair_bytes, line_bytes};
 
-use crate::line::{Line, Pair, Tie};
+use crate::line::{Line, Pair};
 use orders::HalfCents;
 use ranking::Side;
+use sheet::put;
 
 fn side_byte(side: Side) -> u8
     ensures { result ≡ side_byte side }
@@ -13,17 +14,6 @@ fn side_byte(side: Side) -> u8
     match side {
         Side::Buyers => 1,
         Side::Sellers => 2,
-    }
-}
-
-fn tie_byte(tie: Tie) -> u8
-    ensures { result ≡ tie_byte tie }
-{
-    match tie {
-        Tie::NoTie => 0,
-        Tie::Before => 1,
-        Tie::At => 2,
-        Tie::After => 3,
     }
 }
 
@@ -56,17 +46,6 @@ fn pair_bytes(pair: Pair) -> [u8; 8]
     [b0, b1, b2, b3, a0, a1, a2, a3]
 }
 
-// Writes bytes at a place, and answers where they end.
-pub(crate) fn put(letter: &mut [u8], at: usize, bytes: &[u8]) -> usize
-    requires { at + length bytes.now ≤ length letter.old }
-    ensures end { result ≡ at + length bytes.now }
-    ensures bytes { letter.new ≡ written_at at bytes.now letter.old }
-{
-    let end = at + bytes.len();
-    letter[at..end].copy_from_slice(bytes);
-    end
-}
-
 // Writes a line at a place.
 pub(crate) fn put_line(letter: &mut [u8], at: usize, line: &Line)
     requires { at + 28 ≤ length letter.old }
@@ -76,5 +55,5 @@ pub(crate) fn put_line(letter: &mut [u8], at: usize, line: &Line)
     let end = put(letter, end, &trade_bytes(line.price));
     let end = put(letter, end, &pair_bytes(line.last));
     let end = put(letter, end, &pair_bytes(line.next));
-    let _end = put(letter, end, &[tie_byte(line.tie)]);
+    let _end = put(letter, end, &[u8::from(line.tie)]);
 }

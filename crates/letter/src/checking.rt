@@ -1,10 +1,11 @@
 // Checking a letter from anybody.
-ghost use Rattle.std.specs.Prelude.{◌≡◌, ◌<◌};
-ghost use Rattle.letter.specs.Checks.{right, line_checked, checked_from, checked, Exactly};
+ghost use Rattle.std.specs.Prelude.{◌≡◌, ◌≤◌, length};
+ghost use Rattle.letter.specs.Checks.{right, checked_from, checked, Exactly};
 ghost use Rattle.letter.specs.Statements.{EveningsAccepted, ReliedOn};
 
 use crate::line::Line;
 use orders::Refusal;
+use std::cmp::Ordering;
 
 // Whether each line of a letter says what follows from its own numbers.
 pub fn check(letter: &[u8]) -> Result<(), Refusal>
@@ -13,47 +14,34 @@ pub fn check(letter: &[u8]) -> Result<(), Refusal>
     ensures evenings { EveningsAccepted letter.now result }
     ensures relied { ReliedOn letter.now result }
 {
-    if letter.len() < Line::HEAD {
+    let Some(lines) = letter.get(2) else {
         return Err(Refusal::Ends(letter.len()));
-    }
-    check_lines(letter, usize::from(letter[2]))
+    };
+    check_lines(letter, *lines)
 }
 
 // Checks so many lines, and that nothing comes after them.
-fn check_lines(letter: &[u8], lines: usize) -> Result<(), Refusal>
-    requires { lines < 256 }
+fn check_lines(letter: &[u8], lines: u8) -> Result<(), Refusal>
+    requires { 3 ≤ length letter.now }
     ensures { result ≡ checked_from letter.now 0 lines }
 {
-    for line in 0..lines {
-        check_line(letter, line)?;
+    let whole = letter[Line::HEAD..].chunks_exact(Line::BYTES);
+    for (line, bytes) in (0..lines).zip(whole) {
+        if !is_right(bytes) {
+            return Err(Refusal::NotByRule(usize::from(line)));
+        }
     }
-    let end = Line::HEAD + Line::BYTES * lines;
-    if end < letter.len() {
-        return Err(Refusal::GoesOn(end));
+    let end = Line::place(lines);
+    match letter.len().cmp(&end) {
+        Ordering::Less => Err(Refusal::Ends(letter.len())),
+        Ordering::Equal => Ok(()),
+        Ordering::Greater => Err(Refusal::GoesOn(end)),
     }
-    Ok(())
-}
-
-fn check_line(letter: &[u8], line: usize) -> Result<(), Refusal>
-    requires { line < 256 }
-    ensures { result ≡ line_checked letter.now line }
-{
-    let at = Line::HEAD + Line::BYTES * line;
-    if letter.len() < at + Line::BYTES {
-        return Err(Refusal::Ends(letter.len()));
-    }
-    if !is_right(&letter[at..at + Line::BYTES]) {
-        return Err(Refusal::NotByRule(line));
-    }
-    Ok(())
 }
 
 // Whether bytes are a line that says what follows.
 fn is_right(bytes: &[u8]) -> bool
     ensures { result ≡ right bytes.now }
 {
-    match Line::read(bytes) {
-        Some(line) => line.follows(),
-        None => false,
-    }
+    Line::read(bytes).is_some_and(|line| line.follows())
 }

@@ -1,49 +1,50 @@
 // What follows from a line's own numbers.
-ghost use Rattle.std.specs.Prelude.{◌≡◌};
+ghost use Rattle.std.specs.Prelude.{◌≡◌, ◌+◌};
 ghost use Rattle.ranking.specs.Ranks.{better};
-ghost use Rattle.letter.specs.Following.{of_side, both_there, meets, numbers_or_none, no_better, possible, ahead, behind, tie_holds, trades, served, due, same_price, can_stand, follows};
+ghost use Rattle.letter.specs.Following.{of_side, both_there, meets, numbers_or_none, no_better, possible, ahead, behind, tie_holds, trades, served, due, can_stand, follows};
 
-use crate::line::{Line, Pair, Tie};
+use crate::line::{Line, Pair};
+use crate::tie::Tie;
 use orders::{Cents, HalfCents};
 use ranking::Side;
 
 impl Pair {
     // The number of a side.
-    fn of(self, side: Side) -> u32
-        ensures { result ≡ of_side side self }
+    fn of(self, side: Side) -> Cents
+        ensures { result.0 ≡ of_side side self }
     {
         match side {
-            Side::Buyers => self.bid.0,
-            Side::Sellers => self.ask.0,
+            Side::Buyers => self.bid,
+            Side::Sellers => self.ask,
         }
     }
 
-    // 0 stands for no number.
     fn both_there(self) -> bool
         ensures { result ≡ both_there self }
     {
-        1 <= self.bid.0 && 1 <= self.ask.0
+        Pair::NONE < self.bid && Pair::NONE < self.ask
     }
 
     // Whether the ask is at most the bid, and both are there.
     fn meets(self) -> bool
         ensures { result ≡ meets self }
     {
-        self.both_there() && self.ask.0 <= self.bid.0
+        self.both_there() && self.ask <= self.bid
     }
 
     // Whether each is in range, or not there.
     fn numbers_or_none(self) -> bool
         ensures { result ≡ numbers_or_none self }
     {
-        (self.bid.0 == 0 || self.bid.in_range()) && (self.ask.0 == 0 || self.ask.in_range())
+        (self.bid == Pair::NONE || self.bid.in_range())
+            && (self.ask == Pair::NONE || self.ask.in_range())
     }
 
     // Whether the bid is no higher and the ask no lower.
     fn no_better_than(self, last: Pair) -> bool
         ensures { result ≡ no_better self last }
     {
-        self.bid.0 <= last.bid.0 && (self.ask.0 == 0 || last.ask.0 <= self.ask.0)
+        self.bid <= last.bid && (self.ask == Pair::NONE || last.ask <= self.ask)
     }
 
     // Whether these can be the numbers after a last pair.
@@ -52,37 +53,43 @@ impl Pair {
     {
         last.numbers_or_none()
             && self.numbers_or_none()
-            && (last.meets() || (last.bid.0 == 0 && last.ask.0 == 0))
+            && (last.meets() || (last.bid == Pair::NONE && last.ask == Pair::NONE))
             && !self.meets()
             && (!last.meets() || self.no_better_than(last))
+    }
+
+    // The price half way between the bid and the ask.
+    fn middle(self) -> HalfCents
+        ensures { result.0 ≡ self.bid.0 + self.ask.0 }
+    {
+        HalfCents(u64::from(self.bid.0) + u64::from(self.ask.0))
     }
 
     // Whether the price from these numbers lies between the last pair's ask and its bid.
     fn serves(self, last: Pair) -> bool
         ensures { result ≡ served last self }
     {
-        let price = u64::from(self.bid.0) + u64::from(self.ask.0);
-        self.both_there() && last.ask.half_cents().0 <= price && price <= last.bid.half_cents().0
-    }
-}
-
-// Whether one number is better than another on a side: a higher bid, a lower ask.
-fn is_better(side: Side, one: u32, other: u32) -> bool
-    ensures { result ≡ better side one other }
-{
-    match side {
-        Side::Buyers => other < one,
-        Side::Sellers => one < other,
+        let price = self.middle();
+        self.both_there()
+            && HalfCents::from(last.ask) <= price
+            && price <= HalfCents::from(last.bid)
     }
 }
 
 impl Line {
+    // Whether the member's number is better than another on its side.
+    fn is_better_than(&self, other: Cents) -> bool
+        ensures { result ≡ better self.now.side self.now.cents.0 other.0 }
+    {
+        self.side.is_better(self.cents, other)
+    }
+
     // Whether the member's number is better than that of the last pair.
     fn ahead(&self) -> bool
         ensures { result ≡ ahead self.now.side self.now.cents.0 self.now.last }
     {
         let last = self.last.of(self.side);
-        1 <= last && is_better(self.side, self.cents.0, last)
+        Pair::NONE < last && self.is_better_than(last)
     }
 
     // Whether the next number is there and no worse than the member's.
@@ -90,14 +97,14 @@ impl Line {
         ensures { result ≡ behind self.now.side self.now.cents.0 self.now.next }
     {
         let next = self.next.of(self.side);
-        1 <= next && !is_better(self.side, self.cents.0, next)
+        Pair::NONE < next && !self.is_better_than(next)
     }
 
     // Whether the numbers allow the word on the tie.
     fn tie_holds(&self) -> bool
         ensures { result ≡ tie_holds self.now.side self.now.cents.0 self.now.last self.now.next self.now.tie }
     {
-        let tied = self.cents.0 == self.last.of(self.side);
+        let tied = self.cents == self.last.of(self.side);
         match self.tie {
             Tie::NoTie => !tied && (self.ahead() || self.behind()),
             Tie::Before | Tie::At => tied,
@@ -125,9 +132,9 @@ impl Line {
             return None;
         }
         if self.next.serves(self.last) {
-            return Some(HalfCents(u64::from(self.next.bid.0) + u64::from(self.next.ask.0)));
+            return Some(self.next.middle());
         }
-        Some(Cents(self.last.of(self.side)).half_cents())
+        Some(HalfCents::from(self.last.of(self.side)))
     }
 
     // Whether a member can stand so: its numbers are possible, and they allow its word on a tie.
@@ -141,16 +148,6 @@ impl Line {
     pub fn follows(&self) -> bool
         ensures { result ≡ follows self.now }
     {
-        self.can_stand() && same_price(self.price, self.due())
-    }
-}
-
-fn same_price(said: Option<HalfCents>, due: Option<HalfCents>) -> bool
-    ensures { result ≡ same_price said due }
-{
-    match (said, due) {
-        (None, None) => true,
-        (Some(said), Some(due)) => said.0 == due.0,
-        (None, Some(_)) | (Some(_), None) => false,
+        self.can_stand() && self.price == self.due()
     }
 }

@@ -8,8 +8,10 @@ mod line;
 pub mod promises;
 mod reading;
 mod telling;
+mod tie;
 mod writing;
 
 pub use checking::check;
-pub use line::{Line, Pair, Tie};
+pub use line::{Line, Pair};
+pub use tie::{Tie, UnknownTie};
 pub use writing::Published;

@@ -1,24 +1,21 @@
 // A line of a letter: what it tells a member of one kind.
+use crate::tie::Tie;
 use orders::{Cents, HalfCents};
 use ranking::Side;
 
-// Where a member stands whose number is that of the last pair: before it, in it, or after it.
-#[derive(Clone, Copy)]
-pub enum Tie {
-    NoTie,
-    Before,
-    At,
-    After,
-}
-
-// The bid and the ask of a rank, 0 where there is none.
-#[derive(Clone, Copy)]
+// The bid and the ask of a rank.
+#[derive(Clone, Copy, Debug, PartialEq, Eq)]
 pub struct Pair {
     pub bid: Cents,
     pub ask: Cents,
 }
 
-#[derive(Clone, Copy)]
+impl Pair {
+    // Stands where there is no number.
+    pub(crate) const NONE: Cents = Cents(0);
+}
+
+#[derive(Clone, Copy, Debug, PartialEq, Eq)]
 pub struct Line {
     pub kind: u8,
     pub side: Side,

@@ -1,29 +1,26 @@
 // What a sheet tells a member of a kind.
 ghost use Rattle.std.specs.Prelude.{◌≡◌};
-ghost use Rattle.letter.specs.Telling.{listed_before, cents_or_0, tie_beside, price_beside, line_told};
+ghost use Rattle.std.specs.Option.{option_to_list};
+ghost use Rattle.letter.specs.Telling.{listed_before, cents_or_0, tie_beside, price_beside, line_in_section, entry_in_section};
 
-use crate::line::{Line, Pair, Tie};
-use orders::{Cents, HalfCents};
+use crate::line::{Line, Pair};
+use crate::tie::Tie;
+use orders::{Cents, Entry, HalfCents};
 use ranking::{Ranked, Side};
 use sheet::{Row, Section};
+use std::cmp::Ordering;
 
 // The member listed at the rank before, if there is one.
 fn listed_before(row: Row, rank: u16) -> Option<Ranked>
     ensures { result ≡ listed_before row.entry.bytes.now rank }
 {
-    if rank == 0 {
-        return None;
-    }
-    row.get(usize::from(rank - 1))
+    row.get(usize::from(rank.checked_sub(1)?))
 }
 
 fn cents_or_0(listed: Option<Ranked>) -> Cents
     ensures { result.0 ≡ cents_or_0 listed }
 {
-    match listed {
-        Some(one) => one.cents,
-        None => Cents(0),
-    }
+    listed.map_or(Pair::NONE, |one| one.cents)
 }
 
 // Where a member stands beside the one listed in the last pair, if it has the same number.
@@ -31,15 +28,11 @@ fn tie_beside(member: Ranked, last: Option<Ranked>) -> Tie
     ensures { result ≡ tie_beside member last }
 {
     match last {
-        Some(last) if member.cents.0 == last.cents.0 => {
-            if member.member < last.member {
-                Tie::Before
-            } else if member.member == last.member {
-                Tie::At
-            } else {
-                Tie::After
-            }
-        }
+        Some(last) if member.cents == last.cents => match member.member.cmp(&last.member) {
+            Ordering::Less => Tie::Before,
+            Ordering::Equal => Tie::At,
+            Ordering::Greater => Tie::After,
+        },
         Some(_) | None => Tie::NoTie,
     }
 }
@@ -61,8 +54,8 @@ fn price_beside(
 
 impl Line {
     // The line of a member on a side of a kind.
-    pub(crate) fn told(kind: u8, side: Side, member: Ranked, section: Section) -> Line
-        ensures { result ≡ line_told kind side member section.entry.pairs section.entry.trades section.entry.buyers_price section.entry.sellers_price section.entry.buyers.bytes.now section.entry.sellers.bytes.now }
+    fn told(kind: u8, side: Side, member: Ranked, section: Section) -> Line
+        ensures { result ≡ line_in_section kind side member section.entry }
     {
         let (row, price) = match side {
             Side::Buyers => (section.buyers, section.buyers_price),
@@ -83,5 +76,13 @@ impl Line {
             },
             tie: tie_beside(member, listed_before(row, section.pairs)),
         }
+    }
+
+    // The line of a member's entry in a kind, if it has one.
+    pub(crate) fn of_entry(kind: u8, member: u16, entry: Entry, section: Section) -> Option<Line>
+        ensures { option_to_list result ≡ entry_in_section kind member entry section.entry }
+    {
+        let (side, cents) = Side::of(entry)?;
+        Some(Line::told(kind, side, Ranked { member, cents }, section))
     }
 }

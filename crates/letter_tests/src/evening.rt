@@ -1,35 +1,24 @@
 // An evening of few members and few numbers, so that there are many ties, with its sheet.
 use clearing::{clear, count_pairs};
-use orders::{Cents, Entry};
+use dice::Dice;
+use orders::{Cents, Entry, Extent};
 use ranking::{Index, Ranked, Side};
-use sheet::write_kind;
+use sheet::{Listing, write_kind};
 use std::alloc::{AllocError, Global};
 use std::test::Fail;
 
-pub const KINDS: u8 = 3;
+pub const EXTENT: Extent = Extent {
+    kinds: 3,
+    members: 9,
+};
 
-pub const MEMBERS: u16 = 9;
-
-// A generator of numbers, linear congruential.
-#[derive(Drop)]
-pub struct Dice(pub u64);
-
-impl Dice {
-    pub(crate) fn roll(&mut self, below: u64) -> u64 {
-        self.0 = self
-            .0
-            .wrapping_mul(6364136223846793005)
-            .wrapping_add(1442695040888963407);
-        (self.0 >> 40).checked_rem(below).unwrap_or(0)
-    }
-
-    fn entry(&mut self) -> Entry {
-        let cents = Cents(u32::try_from(self.roll(4)).unwrap_or(0).saturating_add(1));
-        match self.roll(5) {
-            0 => Entry::Nothing,
-            1 | 2 => Entry::Bid(cents),
-            _ => Entry::Ask(cents),
-        }
+// An entry of few different numbers.
+fn entry(dice: &mut Dice) -> Entry {
+    let cents = Cents(u32::try_from(dice.roll(4)).unwrap_or(0).saturating_add(1));
+    match dice.roll(5) {
+        0 => Entry::Nothing,
+        1 | 2 => Entry::Bid(cents),
+        _ => Entry::Ask(cents),
     }
 }
 
@@ -37,18 +26,13 @@ impl Dice {
 pub struct Evening {
     pub entries: Vec<u32>,
     pub sheet: Vec<u8>,
-    pub length: usize,
 }
 
 // The ranks of a side of a kind.
 fn ranks(heap: Global, index: &Index, kind: u8, side: Side) -> Result<Vec<Ranked>, AllocError> {
-    let mut list = Vec::new(heap);
-    for rank in 0..MEMBERS {
-        if let Some(one) = index.member_at(kind, side, rank) {
-            list.push(one)?;
-        }
-    }
-    Ok(list)
+    (0..EXTENT.members)
+        .filter_map(|rank| index.member_at(kind, side, rank))
+        .collect(heap)
 }
 
 // Writes a kind at a place of the sheet, and answers where it ends.
@@ -64,43 +48,36 @@ fn publish(
     let (buyers, sellers) = (buyers.as_slice(), sellers.as_slice());
     let pairs = count_pairs(buyers, sellers);
     let first = pairs.saturating_add(1);
-    let end = write_kind(
-        sheet,
-        at,
+    let listing = Listing {
         pairs,
-        clear(buyers, sellers),
-        &buyers[0..first.min(buyers.len())],
-        &sellers[0..first.min(sellers.len())],
-    );
-    Ok(end.ok_or("the sheet is full")?)
+        outcome: clear(buyers, sellers),
+        buyers: &buyers[0..first.min(buyers.len())],
+        sellers: &sellers[0..first.min(sellers.len())],
+    };
+    Ok(write_kind(sheet, at, listing).ok_or("the sheet is full")?)
 }
 
 // Rolls the entries of a kind, and takes them into the index.
 fn enter(dice: &mut Dice, index: &mut Index, kind: u8, entries: &mut Vec<u32>) -> Result<(), Fail> {
-    for member in 0..MEMBERS {
-        let entry = dice.entry();
-        entries.push(entry.encode().ok_or("an entry out of range")?)?;
-        let _ = match entry {
-            Entry::Bid(cents) => index.put(kind, Side::Buyers, member, cents),
-            Entry::Ask(cents) => index.put(kind, Side::Sellers, member, cents),
-            Entry::Nothing => false,
-        };
+    for member in 0..EXTENT.members {
+        let entry = entry(dice);
+        entries.push(u32::try_from(entry)?)?;
+        if let Some((side, cents)) = Side::of(entry) {
+            let _free = index.put(kind, side, member, cents);
+        }
     }
     Ok(())
 }
 
 pub(crate) fn hold(heap: Global, dice: &mut Dice) -> Result<Evening, Fail> {
-    let mut index = Index::new(heap, KINDS, MEMBERS)?;
+    let mut index = Index::new(heap, EXTENT)?;
     let mut entries = Vec::new(heap);
     let mut sheet = vec![in heap; 0u8; 400]?;
     let mut length = 0;
-    for kind in 0..KINDS {
+    for kind in 0..EXTENT.kinds {
         enter(dice, &mut index, kind, &mut entries)?;
         length = publish(heap, &index, kind, sheet.as_mut_slice(), length)?;
     }
-    Ok(Evening {
-        entries,
-        sheet,
-        length,
-    })
+    sheet.truncate(length);
+    Ok(Evening { entries, sheet })
 }

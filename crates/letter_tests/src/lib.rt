@@ -1,6 +1,6 @@
 #![tactic(auto)]
 
-// Letters: those of random evenings, and with one thing changed; lines that no evening gives; what the writer refuses.
+// Letters: those of random evenings, and with one thing changed; lines that no evening gives; what the writer refuses; the words on a tie.
 #[cfg(test)]
 mod evening;
 #[cfg(test)]
@@ -9,26 +9,14 @@ mod lines;
 mod random;
 #[cfg(test)]
 mod refusals;
+#[cfg(test)]
+mod ties;
 
 #[cfg(test)]
 use orders::Refusal;
-use std::process::Abort;
-#[cfg(test)]
-use std::test::Fail;
 
+// An answer with the number and the place by which a refusal is made known.
 #[cfg(test)]
-fn refused(
-    rt: &impl Abort,
-    answer: Result<(), Refusal>,
-    number: u8,
-    place: usize,
-) -> Result<(), Fail> {
-    match answer {
-        Ok(()) => Err(Fail::new("it is not refused")),
-        Err(refusal) => {
-            assert_eq!(rt; refusal.number(), number);
-            assert_eq!(rt; refusal.place(), place);
-            Ok(())
-        }
-    }
+fn known<T: Drop>(answer: Result<T, Refusal>) -> Result<T, (u8, usize)> {
+    answer.map_err(|refusal| (refusal.number(), refusal.place()))
 }

@@ -15,10 +15,7 @@ fn line(side: Side, cents: u32, price: Option<u64>, last: Pair, next: Pair, tie:
         kind: 0,
         side,
         cents: Cents(cents),
-        price: match price {
-            Some(price) => Some(HalfCents(price)),
-            None => None,
-        },
+        price: price.map(HalfCents),
         last,
         next,
         tie,

@@ -1,6 +1,7 @@
 // Every letter of random evenings is accepted, and with one thing changed it is refused at the right place.
-use crate::evening::{Dice, Evening, KINDS, MEMBERS, hold};
-use crate::refused;
+use crate::evening::{EXTENT, Evening, hold};
+use crate::known;
+use dice::Dice;
 use letter::{Line, Published, check as judge};
 use std::alloc::Global;
 use std::process::Abort;
@@ -19,7 +20,8 @@ fn with_byte(
     if let Some(place) = changed.get_mut(at) {
         *place = byte;
     }
-    refused(rt, judge(changed.as_slice()), 14, line)
+    assert_eq!(rt; known(judge(changed.as_slice())), Err((14, line)));
+    Ok(())
 }
 
 // The trade turned, the price changed by half a cent, and the word on a tie contradicted.
@@ -40,11 +42,12 @@ fn change_line(rt: &impl Abort, heap: Global, letter: &[u8], line: usize) -> Res
 // Cut at every place, and extended.
 fn change_length(rt: &impl Abort, heap: Global, letter: &[u8]) -> Result<(), Fail> {
     for end in 0..letter.len() {
-        refused(rt, judge(&letter[0..end]), 13, end)?;
+        assert_eq!(rt; known(judge(&letter[0..end])), Err((13, end)));
     }
     let mut longer = letter.to_vec(heap)?;
     longer.push(0)?;
-    refused(rt, judge(longer.as_slice()), 13, letter.len())
+    assert_eq!(rt; known(judge(longer.as_slice())), Err((13, letter.len())));
+    Ok(())
 }
 
 // How many lines the member's letter has.
@@ -54,22 +57,16 @@ fn try_letter(
     evening: &Evening,
     member: u16,
 ) -> Result<usize, Fail> {
-    assert!(rt; evening.length <= evening.sheet.len());
     let published = Published {
-        kinds: KINDS,
-        members: MEMBERS,
+        extent: EXTENT,
         entries: evening.entries.as_slice(),
-        sheet: &evening.sheet.as_slice()[0..evening.length],
+        sheet: evening.sheet.as_slice(),
     };
     let mut letter = [0u8; 87];
-    let Ok(length) = published.write_letter(member, &mut letter) else {
-        return Err(Fail::new("it is not written"));
-    };
+    let length = published.write_letter(member, &mut letter)?;
     assert!(rt; length <= letter.len());
     let letter = &letter[0..length];
-    if judge(letter).is_err() {
-        return Err(Fail::new("it is not accepted"));
-    }
+    assert_eq!(rt; judge(letter), Ok(()));
     change_length(rt, heap, letter)?;
     let lines = usize::from(letter.get(2).copied().ok_or("no head")?);
     for line in 0..lines {
@@ -84,7 +81,7 @@ fn letters_of_random_evenings(rt: HostRuntime) -> Result<(), Fail> {
     let mut lines = 0usize;
     for _evening in 0..200 {
         let evening = hold(rt.alloc(), &mut dice)?;
-        for member in 0..MEMBERS {
+        for member in 0..EXTENT.members {
             lines = lines.saturating_add(try_letter(&rt, rt.alloc(), &evening, member)?);
         }
     }

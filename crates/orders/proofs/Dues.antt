@@ -1,10 +1,10 @@
 -- A message is taken exactly when it is due.
-use Rattle.std.proofs.Common.{◌≡◌, ℕ, ◌*◌, ◌<◌, ◌≤◌, Bool, true, eqb, leb, ◌⊎◌, List, length, is_ok, None, Ok, Err, Result, refl, ap, ◌∙◌, subst, ⊎_elim, arith}
-use Rattle.std.proofs.lemmas.Bool.{leb-true, lt-ltb, le-ltb, le-leb, eq-eqb, eqb-true, and_parts, and_from}
+use Rattle.std.proofs.Common.{◌≡◌, ℕ, ◌*◌, ◌<◌, ◌≤◌, Bool, true, eqb, leb, ◌⊎◌, List, length, is_ok, Ok, Err, Result, refl, ap, ◌∙◌, subst, ⊎_elim, arith}
+use Rattle.std.proofs.lemmas.Bool.{leb-true, lt-ltb, le-leb, eq-eqb, eqb-true, and_parts, and_from}
 use Rattle.std.proofs.lemmas.Bool.Decides.{Decides-at}
 use Rattle.orders.specs.declared.refusal.Refusal.TheVariants.{Length}
 use Rattle.orders.specs.Messages.{fields, message_of}
-use Rattle.orders.specs.Lent.{Held, Fits, lacking, position, judged, answer}
+use Rattle.orders.specs.Lent.{Held, position, judged, answer}
 use Rattle.orders.specs.declared.entry.Entry.{Entry}
 use Rattle.orders.specs.declared.entry.Entry.TheVariants.{Bid}
 use Rattle.orders.specs.declared.message.Message.{Message}
@@ -17,6 +17,7 @@ use Rattle.orders.specs.Statements.{TakenWhenDue}
 use Rattle.orders.proofs.Rulings.{Ordered, ordered, ok_cond, ok_and_then, Asks, for_nothing, for_bid, for_ask, asks_for}
 use Rattle.orders.proofs.Soundness.{allowed_sound}
 use Rattle.orders.proofs.Sums.{committed_kept}
+use Rattle.orders.proofs.Openings.{lacks_nothing}
 
 ok_value : {A : Type 0} (r : Result A Refusal) → is_ok r ≡ true → (x : A) × (r ≡ Ok x)
 ok_value (Ok x) h = (x, refl)
@@ -81,16 +82,6 @@ due_if_taken K M P m s t = go (asks_for m.sort m.cents r.entry r.asks)
           bid_is_counted = λ h. absurd (omega arith);
         }
 
-nothing_lacks : (K M : ℕ) (h : Held) → Fits K M h → lacking K M h ≡ None
-nothing_lacks K M h f =
-    rw (
-      le-ltb (length h.entries) (K * M) f.entries,
-      le-ltb (length h.numbers) M f.numbers,
-      le-ltb (length h.committed) M f.committed,
-      le-ltb (length h.accounts) M f.accounts,
-      le-ltb (length h.berths) (K * M) f.berths,
-    )
-
 answer_ok : {A : Type 0} (r : Result A Refusal) → is_ok (answer r) ≡ is_ok r
 answer_ok (Ok x) = refl
 answer_ok (Err e) = refl
@@ -128,7 +119,7 @@ taken_if_due K M P m s d =
     rw (lt-ltb m.member M d.member_exists, lt-ltb (P m.member).last m.number d.number_is_new, lt-ltb m.kind K d.kind_exists, e.0, e.1)
 
 pub taken_when_due : (K M : ℕ) (h : Held) (bytes : List ℕ) (taken : Bool) → taken ≡ is_ok (answer (judged K M h bytes)) → TakenWhenDue K M h bytes taken
-taken_when_due K M h bytes taken e f s = Decides-at taken (is_ok (ruled (message_of bytes))) (e ∙ rw (nothing_lacks K M h f) (answered (message_of bytes))) (forth, back)
+taken_when_due K M h bytes taken e f s = Decides-at taken (is_ok (ruled (message_of bytes))) (e ∙ rw (lacks_nothing K M h f) (answered (message_of bytes))) (forth, back)
   where
     P : ℕ → Position
     P = position K M h

@@ -1,5 +1,6 @@
 pub mod Accounts
 pub mod Alone
+pub mod Chunks
 pub mod Codes
 pub mod Cuts
 pub mod Dues

@@ -1,14 +1,12 @@
 -- What an order that a message is judged to be says of the message.
-use Rattle.std.proofs.Common.{◌≡◌, ℕ, ◌+◌, ◌<◌, Bool, true, false, cond, eqb, ltb, leb, Some, None, Ok, Err, Option, Result, unwrap_or, sym, refl, ap, ◌∙◌, subst, ⊎_elim, arith}
-use Rattle.std.proofs.lemmas.Bool.{ltb-true, lt-ltb, eqb-true}
+use Rattle.std.proofs.Common.{◌≡◌, ℕ, ◌+◌, ◌<◌, Bool, true, false, cond, eqb, ltb, leb, Ok, Err, Option, Result, unwrap_or, refl, ap, ◌∙◌, ⊎_elim, arith}
+use Rattle.std.proofs.lemmas.Bool.{ltb-true, eqb-true}
 use Rattle.orders.specs.Range.{in_range}
 use Rattle.orders.specs.Entries.{encoded, entry_of}
-use Rattle.orders.proofs.Codes.{either_cond, some_cond, encode_decode}
+use Rattle.orders.proofs.Codes.{either_cond, encode_decode}
 use Rattle.orders.specs.declared.entry.Entry.{Entry}
 use Rattle.orders.specs.declared.entry.Entry.TheVariants.{Nothing, Bid, Ask}
 use Rattle.orders.specs.declared.message.Message.{Message}
-use Rattle.orders.specs.declared.order.Kind.{Kind}
-use Rattle.orders.specs.declared.order.Member.{Member}
 use Rattle.orders.specs.declared.order.Order.{Order}
 use Rattle.orders.specs.declared.refusal.Refusal.{Refusal}
 use Rattle.orders.specs.declared.refusal.Refusal.TheVariants.{NoMember, OldNumber, NoKind, NoSort, OutOfRange, Uncovered, Full, Unbacked}
@@ -120,12 +118,3 @@ order_within K M P m o h =
       omega (arith, r.member, ap (λ (q : Order). q.member.0) r.same),
       omega (arith, r.kind, ap (λ (q : Order). q.kind.0) r.same),
     )
-
--- a message whose member and kind exist, with a new number
-pub ruled : (K M : ℕ) (P : ℕ → Position) (m : Message) (i : Member) (k : Kind) → Some i ≡ cond (ltb m.member M) (Some (record { 0 = m.member })) None → (P i.0).last < m.number → Some k ≡ cond (ltb m.kind K) (Some (record { 0 = m.kind })) None → entering (P i.0) m ≡ ruling K M P m
-ruled K M P m i k h newer l =
-    let a = some_cond (ltb m.member M) (record { 0 = m.member }) i (sym h) in
-    let b = some_cond (ltb m.kind K) (record { 0 = m.kind }) k (sym l) in
-    let same : i.0 ≡ m.member = ap (λ (x : Member). x.0) (sym a.1) in
-    let new : ltb (P m.member).last m.number ≡ true = lt-ltb (P m.member).last m.number (subst (λ (n : ℕ). (P n).last < m.number) same newer) in
-    ap (λ (n : ℕ). entering (P n) m) same ∙ rw (a.0, new, b.0)

@@ -4,6 +4,7 @@ pub mod Refusals
 pub mod Words
 pub mod Inputs
 pub mod Messages
+pub mod Sorts
 pub mod Taking
 pub mod Lent
 pub mod Opening

@@ -19,6 +19,10 @@ abbrev pub account_or : Option ℕ → Option Refusal → Option Refusal
 account_or None r = r
 account_or (Some m) r = Some (Account m)
 
+-- why an evening may not have K kinds and M members
+abbrev pub extent_refused : ℕ → ℕ → Option Refusal
+extent_refused K M = cond (nat_le 1 K && nat_le K 64) (cond (nat_le 1 M && nat_le M 2000) None (Some Members)) (Some Kinds)
+
 -- why an evening of K kinds and M members does not open
 abbrev pub opening : ℕ → ℕ → ℕ → Held → Option Refusal
 opening K M fund h =

@@ -6,35 +6,34 @@ ghost use Rattle.orders.specs.Opening.{emptied};
 use crate::books::Books;
 use crate::evening::{Closed, Open};
 use crate::money::HalfCents;
-use crate::opening::empty;
 use crate::refusal::Refusal;
 
 impl Open {
     // Ends the evening, with what the fund then holds.
     pub fn close(self, fund: HalfCents) -> Closed
-        ensures { result ≡ record { kinds = self.kinds; members = self.members; fund = fund } }
+        ensures { result ≡ record { extent = self.extent; fund = fund } }
     {
         Closed {
-            kinds: self.kinds,
-            members: self.members,
+            extent: self.extent,
             fund,
         }
     }
 
     // Ends the evening, with what the fund then holds: there is no entry, and nothing is bid. Message numbers stay.
     pub fn close_books(self, books: &mut Books, fund: HalfCents) -> Closed
-        requires fits { Fits self.kinds self.members (held books.old) }
-        ensures closed { result ≡ record { kinds = self.kinds; members = self.members; fund = fund } }
-        ensures entries { books.new.entries.now ≡ emptied None (self.kinds * self.members) books.old.entries.now }
-        ensures committed { books.new.committed.now ≡ emptied None self.members books.old.committed.now }
+        requires fits { Fits self.extent.kinds self.extent.members (held books.old) }
+        ensures closed { result ≡ record { extent = self.extent; fund = fund } }
+        ensures entries { books.new.entries.now ≡ emptied None (self.extent.kinds * self.extent.members) books.old.entries.now }
+        ensures committed { books.new.committed.now ≡ emptied None self.extent.members books.old.committed.now }
         ensures numbers { books.new.numbers.now ≡ books.old.numbers.now }
         ensures accounts { books.new.accounts.now ≡ books.old.accounts.now }
         ensures berths { books.new.berths.now ≡ books.old.berths.now }
         ensures lent { SameLoans books.old books.new }
     {
-        let members = usize::from(self.members);
-        empty(books.entries, usize::from(self.kinds) * members, 0);
-        empty(books.committed, members, 0);
+        let slots = self.extent.slots();
+        let members = usize::from(self.extent.members);
+        books.entries[0..slots].fill(0);
+        books.committed[0..members].fill(0);
         self.close(fund)
     }
 }

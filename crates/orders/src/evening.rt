@@ -2,24 +2,23 @@
 // no longer has it open.
 ghost use Rattle.std.specs.Prelude.{◌≤◌};
 
+use crate::extent::Extent;
 use crate::money::HalfCents;
 
 // An evening that takes messages.
 #[derive(Drop)]
 pub struct Open {
-    pub kinds: u8,
-    pub members: u16,
+    pub extent: Extent,
     pub fund: HalfCents,
-    ghost kinds_least: { 1 ≤ kinds },
-    ghost kinds_most: { kinds ≤ 64 },
-    ghost members_least: { 1 ≤ members },
-    ghost members_most: { members ≤ 2000 },
+    ghost kinds_least: { 1 ≤ extent.kinds },
+    ghost kinds_most: { extent.kinds ≤ 64 },
+    ghost members_least: { 1 ≤ extent.members },
+    ghost members_most: { extent.members ≤ 2000 },
 }
 
 // An evening that takes nothing any more.
 #[derive(Drop)]
 pub struct Closed {
-    pub kinds: u8,
-    pub members: u16,
+    pub extent: Extent,
     pub fund: HalfCents,
 }

@@ -1,16 +1,15 @@
 // The bytes of an evening.
-ghost use Rattle.std.specs.Prelude.{◌≡◌, ℕ, ◌+◌, ◌*◌, ◌/◌, ◌<◌, ◌≤◌, cond, length, take, drop, IfOk};
-ghost use Rattle.orders.specs.Words.{word2, word4, word8};
+ghost use Rattle.std.specs.Prelude.{◌≡◌, ◌/◌, length, take, drop, IfOk};
 ghost use Rattle.orders.specs.Inputs.{kinds_in, members_in, fund_in, accounts_in, berths_in, messages_in, half_cents};
 
+use crate::extent::Extent;
 use crate::money::HalfCents;
 use std::alloc::{AllocError, Global};
 
 // What is missing is read as out of range, so that opening an evening refuses it.
 #[derive(Clone, Copy)]
 pub struct Input<'a> {
-    pub kinds: u8,
-    pub members: u16,
+    pub extent: Extent,
     pub fund: HalfCents,
     // the bytes of the accounts, of the berths and of the messages
     pub accounts: &'a [u8],
@@ -21,29 +20,19 @@ pub struct Input<'a> {
 fn members(bytes: &[u8]) -> u16
     ensures { result ≡ members_in bytes.now }
 {
-    match bytes {
-        [_, low, high, ..] => u16::from_le_bytes([*low, *high]),
-        _ => 0,
-    }
+    bytes
+        .get(1..)
+        .and_then(|rest| rest.first_chunk())
+        .map_or(0, |word| u16::from_le_bytes(*word))
 }
 
 fn fund(bytes: &[u8]) -> u64
     ensures { result ≡ fund_in bytes.now }
 {
-    match bytes {
-        [_, _, _, a, b, c, d, e, f, g, h, ..] => u64::from_le_bytes([
-            *a, *b, *c, *d, *e, *f, *g, *h,
-        ]),
-        _ => u64::MAX,
-    }
-}
-
-// The word of four bytes at a place.
-fn word(bytes: &[u8], at: usize) -> u32
-    requires { at + 4 ≤ length bytes.now }
-    ensures { result ≡ word4 bytes.now at }
-{
-    u32::from_le_bytes([bytes[at], bytes[at + 1], bytes[at + 2], bytes[at + 3]])
+    bytes
+        .get(3..)
+        .and_then(|rest| rest.first_chunk())
+        .map_or(u64::MAX, |word| u64::from_le_bytes(*word))
 }
 
 // The first `count` bytes, or as many as there are, and the others.
@@ -56,22 +45,22 @@ fn cut(bytes: &[u8], count: usize) -> (&[u8], &[u8])
 
 impl Input<'_> {
     pub fn read(bytes: &[u8]) -> Input<'_>
-        ensures kinds { result.kinds ≡ kinds_in bytes.now }
-        ensures members { result.members ≡ members_in bytes.now }
+        ensures kinds { result.extent.kinds ≡ kinds_in bytes.now }
+        ensures members { result.extent.members ≡ members_in bytes.now }
         ensures fund { result.fund.0 ≡ fund_in bytes.now }
         ensures accounts { result.accounts.now ≡ accounts_in bytes.now }
         ensures berths { result.berths.now ≡ berths_in bytes.now }
         ensures messages { result.messages.now ≡ messages_in bytes.now }
     {
-        let kinds = bytes.first().copied().unwrap_or(0);
-        let members = members(bytes);
-        let count = usize::from(members);
+        let extent = Extent {
+            kinds: bytes.first().copied().unwrap_or(0),
+            members: members(bytes),
+        };
         let (_, rest) = cut(bytes, 11);
-        let (accounts, rest) = cut(rest, 4 * count);
-        let (berths, messages) = cut(rest, usize::from(kinds) * count);
+        let (accounts, rest) = cut(rest, 4 * usize::from(extent.members));
+        let (berths, messages) = cut(rest, extent.slots());
         Input {
-            kinds,
-            members,
+            extent,
             fund: HalfCents(fund(bytes)),
             accounts,
             berths,
@@ -83,10 +72,10 @@ impl Input<'_> {
     pub fn half_cents(&self, heap: Global) -> Result<Vec<u64>, AllocError>
         ensures { IfOk result (λ v. v.items ≡ half_cents self.now.accounts.now (length self.now.accounts.now / 4)) }
     {
-        let mut accounts = Vec::new(heap);
-        for i in 0..self.accounts.len() / 4 {
-            accounts.push(2 * u64::from(word(self.accounts, 4 * i)))?;
-        }
-        Ok(accounts)
+        let (words, _) = self.accounts.as_chunks();
+        words
+            .iter()
+            .map(|word| 2 * u64::from(u32::from_le_bytes(*word)))
+            .collect(heap)
     }
 }

@@ -1,6 +1,7 @@
 // A message as it comes: twelve bytes, integers low byte first.
 ghost use Rattle.std.specs.Prelude.{◌≡◌};
 ghost use Rattle.orders.specs.Messages.{message_of};
+ghost use Rattle.orders.specs.Sorts.{sort_of};
 ghost use Rattle.orders.specs.Taking.{asked};
 
 use crate::entry::Entry;
@@ -8,13 +9,36 @@ use crate::money::Cents;
 use crate::refusal::Refusal;
 
 // Nothing is known yet of the fields of a message but that they are there.
-#[derive(Clone, Copy)]
+#[derive(Clone, Copy, Debug, PartialEq, Eq)]
 pub struct Message {
     pub member: u16,
     pub number: u32,
     pub kind: u8,
     pub sort: u8,
     pub cents: u32,
+}
+
+// What a message asks for: that there be nothing, a bid or an ask.
+#[derive(Clone, Copy, Debug, PartialEq, Eq)]
+pub enum Sort {
+    Nothing,
+    Bid,
+    Ask,
+}
+
+impl TryFrom<u8> for Sort {
+    type Error = Refusal;
+
+    ghost try_from_gives = { λ byte r. r ≡ sort_of byte };
+
+    fn try_from(byte: u8) -> Result<Sort, Refusal> {
+        match byte {
+            0 => Ok(Sort::Nothing),
+            1 => Ok(Sort::Bid),
+            2 => Ok(Sort::Ask),
+            _ => Err(Refusal::NoSort),
+        }
+    }
 }
 
 impl Message {
@@ -38,12 +62,11 @@ impl Message {
         ensures { result ≡ asked self.sort self.cents }
     {
         let cents = Cents(self.cents);
-        match self.sort {
-            0 if self.cents == 0 => Ok(Entry::Nothing),
-            1 if cents.in_range() => Ok(Entry::Bid(cents)),
-            2 if cents.in_range() => Ok(Entry::Ask(cents)),
-            0..=2 => Err(Refusal::OutOfRange),
-            _ => Err(Refusal::NoSort),
+        match Sort::try_from(self.sort)? {
+            Sort::Nothing if self.cents == 0 => Ok(Entry::Nothing),
+            Sort::Bid if cents.in_range() => Ok(Entry::Bid(cents)),
+            Sort::Ask if cents.in_range() => Ok(Entry::Ask(cents)),
+            Sort::Nothing | Sort::Bid | Sort::Ask => Err(Refusal::OutOfRange),
         }
     }
 }

@@ -2,10 +2,10 @@
 ghost use Rattle.std.specs.Prelude.{◌≡◌, ◌*◌};
 ghost use Rattle.orders.specs.Range.{in_range};
 
-#[derive(Clone, Copy)]
+#[derive(Clone, Copy, Debug, Default, PartialEq, Eq, PartialOrd, Ord)]
 pub struct Cents(pub u32);
 
-#[derive(Clone, Copy)]
+#[derive(Clone, Copy, Debug, PartialEq, Eq, PartialOrd, Ord)]
 pub struct HalfCents(pub u64);
 
 impl Cents {
@@ -18,11 +18,13 @@ impl Cents {
     {
         1 <= self.0 && self.0 <= Cents::MOST
     }
+}
 
-    // The same money in half cents.
-    pub fn half_cents(self) -> HalfCents
-        ensures { result.0 ≡ 2 * self.0 }
-    {
-        HalfCents(2 * u64::from(self.0))
+// The same money in half cents.
+impl From<Cents> for HalfCents {
+    ghost from_gives = { λ cents half_cents. half_cents.0 ≡ 2 * cents.0 };
+
+    fn from(cents: Cents) -> HalfCents {
+        HalfCents(2 * u64::from(cents.0))
     }
 }

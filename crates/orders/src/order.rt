@@ -3,14 +3,14 @@ use crate::entry::Entry;
 use crate::money::HalfCents;
 
 // A member of the evening.
-#[derive(Clone, Copy)]
+#[derive(Clone, Copy, Debug, PartialEq, Eq)]
 pub struct Member(pub u16);
 
 // A kind of berth of the evening.
-#[derive(Clone, Copy)]
+#[derive(Clone, Copy, Debug, PartialEq, Eq)]
 pub struct Kind(pub u8);
 
-#[derive(Clone, Copy)]
+#[derive(Clone, Copy, Debug, PartialEq, Eq)]
 pub struct Order {
     pub member: Member,
     pub number: u32,

@@ -1,9 +1,14 @@
 // Why something is not taken. Each case has the number and the place by which it is made known.
 ghost use Rattle.std.specs.Prelude.{◌≡◌};
-ghost use Rattle.orders.specs.Refusals.{number, place, field_place};
+ghost use Rattle.orders.specs.Refusals.{number, place};
+ghost use Rattle.orders.specs.declared.refusal.Refusal.TheVariants.{Memory};
 
-// The parts of the memory that a caller lends.
-#[derive(Clone, Copy)]
+use std::alloc::{AllocError, AllocFailed};
+use std::error::Error;
+use std::fmt;
+
+// The parts of the memory that a caller lends, in the order of their places.
+#[derive(Clone, Copy, Debug, PartialEq, Eq)]
 pub enum Part {
     Entries,
     Accounts,
@@ -12,7 +17,7 @@ pub enum Part {
 }
 
 // The fields of a kind on the published sheet, in their order.
-#[derive(Clone, Copy)]
+#[derive(Clone, Copy, Debug, PartialEq, Eq)]
 pub enum Field {
     Pairs,
     Trades,
@@ -24,7 +29,7 @@ pub enum Field {
     SellersRow,
 }
 
-#[derive(Clone, Copy)]
+#[derive(Clone, Copy, Debug, PartialEq, Eq)]
 pub enum Refusal {
     // the evening is closed
     Closed,
@@ -59,23 +64,6 @@ pub enum Refusal {
     NotByRule(usize),
     // no memory
     Memory,
-}
-
-impl Field {
-    pub(crate) fn place(self) -> usize
-        ensures { result ≡ field_place self }
-    {
-        match self {
-            Field::Pairs => 0,
-            Field::Trades => 1,
-            Field::BuyersPrice => 2,
-            Field::SellersPrice => 3,
-            Field::BuyersCount => 4,
-            Field::BuyersRow => 5,
-            Field::SellersCount => 6,
-            Field::SellersRow => 7,
-        }
-    }
 }
 
 impl Refusal {
@@ -114,13 +102,34 @@ impl Refusal {
             Refusal::Members => 1,
             Refusal::Account(member) => usize::from(member),
             Refusal::Fund => 2000,
-            Refusal::Short(Part::Entries) => 0,
-            Refusal::Short(Part::Accounts) => 1,
-            Refusal::Short(Part::Berths) => 2,
-            Refusal::Short(Part::Sheet) => 3,
+            Refusal::Short(part) => part as usize,
             Refusal::NoEntry(entry) | Refusal::NotByRule(entry) => entry,
-            Refusal::Differs { kind, field } => usize::from(kind) * 8 + field.place(),
+            Refusal::Differs { kind, field } => usize::from(kind) * 8 + field as usize,
             Refusal::Ends(at) | Refusal::GoesOn(at) => at,
         }
+    }
+}
+
+impl fmt::Display for Refusal {
+    fn fmt<W: fmt::Write>(&self, f: &mut fmt::Formatter<W>) -> fmt::Result {
+        write!(f, "refused {} at {}", self.number(), self.place())
+    }
+}
+
+impl Error for Refusal {}
+
+impl From<AllocError> for Refusal {
+    ghost from_gives = { λ _ refusal. refusal ≡ Memory };
+
+    fn from(_error: AllocError) -> Refusal {
+        Refusal::Memory
+    }
+}
+
+impl<T: Drop> From<AllocFailed<T>> for Refusal {
+    ghost from_gives = { λ _ refusal. refusal ≡ Memory };
+
+    fn from(error: AllocFailed<T>) -> Refusal {
+        Refusal::from(AllocError::from(error))
     }
 }

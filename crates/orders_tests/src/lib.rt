@@ -3,9 +3,16 @@
 // Refusals that no input of the program brings about: lent memory that is too short, and a closed evening.
 #[cfg(test)]
 mod tests {
-    use orders::{Books, Closed, HalfCents, Open, Part, Refusal};
+    use orders::{Books, Closed, Extent, HalfCents, Open, Part, Refusal};
+    use std::alloc::AllocError;
     use std::process::Abort;
     use std::test::Fail;
+
+    // One kind and one member.
+    const ONE: Extent = Extent {
+        kinds: 1,
+        members: 1,
+    };
 
     // Opens one kind and two members with one part of memory too short: of the entries, themselves or what is kept beside them.
     fn refused(short: Part, beside: bool) -> Option<Refusal> {
@@ -29,10 +36,11 @@ mod tests {
             accounts: &mut accounts[0..a],
             berths: &mut berths[0..b],
         };
-        match Open::open(1, 2, HalfCents(0), &mut books) {
-            Ok(_) => None,
-            Err(refusal) => Some(refusal),
-        }
+        let extent = Extent {
+            kinds: 1,
+            members: 2,
+        };
+        Open::open(extent, HalfCents(0), &mut books).err()
     }
 
     fn told(
@@ -71,9 +79,7 @@ mod tests {
             accounts: &mut accounts,
             berths: &mut berths,
         };
-        let Ok(open) = Open::open(1, 1, HalfCents(0), &mut books) else {
-            return Err(Fail::new("it does not open"));
-        };
+        let open = Open::open(ONE, HalfCents(0), &mut books)?;
         let mut none = [0u32; 0];
         let mut short = Books {
             entries: &mut none,
@@ -82,10 +88,7 @@ mod tests {
             accounts: &mut accounts,
             berths: &mut berths,
         };
-        match open.enter(&mut short, &[0; 12]) {
-            Ok(_) => Err(Fail::new("it is taken")),
-            Err(refusal) => told(&rt, Some(refusal), 11, 0),
-        }
+        told(&rt, open.enter(&mut short, &[0; 12]).err(), 11, 0)
     }
 
     #[test]
@@ -103,8 +106,7 @@ mod tests {
             berths: &mut berths,
         };
         let closed = Closed {
-            kinds: 1,
-            members: 1,
+            extent: ONE,
             fund: HalfCents(7),
         };
         let (closed, message) = closed.take(&mut books, &[0; 12]);
@@ -116,8 +118,22 @@ mod tests {
     }
 
     #[test]
+    fn refusals_are_printed(rt: HostRuntime) -> Result<(), Fail> {
+        let alloc = rt.alloc();
+        for (refusal, text) in [
+            (Refusal::Length(11), "refused 2 at 11"),
+            (Refusal::Fund, "refused 10 at 2000"),
+            (Refusal::Short(Part::Berths), "refused 11 at 2"),
+        ] {
+            assert_eq!(rt; format!(in alloc; "{refusal}")?.as_str(), text);
+        }
+        Ok(())
+    }
+
+    #[test]
     fn want_of_memory(rt: HostRuntime) -> Result<(), Fail> {
         told(&rt, Some(Refusal::Memory), 255, 0)?;
+        assert_eq!(rt; Refusal::from(AllocError), Refusal::Memory);
         told(&rt, Some(Refusal::Short(Part::Sheet)), 11, 3)
     }
 }

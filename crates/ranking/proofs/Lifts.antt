@@ -90,6 +90,7 @@ module _ (h : Hand) {ns : List Node} {m x i j o : ℕ} {t u v : Tree} (c : Trio 
                   times_fork k h (outer_of h u) x v,
                 ))
                 ∙ far.rest k (omega (arith, low.times_is k)) ∙ near.rest k (omega (arith, low.times_is k));
+            kept = λ k. f.kept k ∙ far.kept k ∙ near.kept k;
           }
 
 -- a far child that goes up: the two joins of a single rotation, or a double one
@@ -147,6 +148,7 @@ module _ (h : Hand) {ns : List Node} {m i x : ℕ} {t u : Tree} (p : Parts ns m 
               ∙ sym (cond-false (ltb (weight (inner_of h u)) (2 * weight (outer_of h u))) (single h t m u)
               (double h t m (inner_of h u) (top_of u) (outer_of h u)) (le-ltb _ _ (omega arith)))) f.rep;
           rest = λ k z. f.rest k (omega (arith, high.times_is k));
+          kept = f.kept;
         }
 
     module _ {os : List Node} (eo : length os ≡ length ns) (joins : Joins h ns os m i a) where
@@ -181,6 +183,7 @@ module _ (h : Hand) {ns : List Node} {m i x : ℕ} {t u : Tree} (p : Parts ns m 
             rest = λ k z.
                 f.rest k (omega (arith, high.times_is k, times_fork k h t m (inner_of h u)))
                 ∙ low'.rest k (omega (arith, high.times_is k));
+            kept = λ k. f.kept k ∙ low'.kept k;
           }
 
 -- which way `balance` goes
@@ -195,6 +198,7 @@ module _ (h : Hand) {ns : List Node} {m i j v w : ℕ} {t u : Tree} (p : Parts n
             (sym (cond-true (ltb (3 * weight t) (weight u)) _ _
             (lt-ltb _ _ (omega (arith, size_rep ns i t p.first, size_rep ns j u p.second))))) b.rep;
         rest = b.rest;
+        kept = b.kept;
       }
 
   pub balance_light : w ≤ 3 * v → {os : List Node} {r : ℕ} → Became ns os r (fork h t m u) (node t m u)
@@ -206,4 +210,5 @@ module _ (h : Hand) {ns : List Node} {m i j v w : ℕ} {t u : Tree} (p : Parts n
             (sym (cond-false (ltb (3 * weight t) (weight u)) _ _
             (le-ltb _ _ (omega (arith, size_rep ns i t p.first, size_rep ns j u p.second))))) b.rep;
         rest = b.rest;
+        kept = b.kept;
       }

@@ -2,6 +2,7 @@
 use Rattle.std.proofs.Common.{◌≡◌, ℕ, ◌+◌, ◌<◌, ◌≤◌, cond, List, length, set, sym, refl, ap, ◌∙◌, subst, inl, inr, arith}
 use Rattle.std.proofs.lemmas.Bool.{eq-eqb, ne_eqb, cases_eq, cases_lt}
 use Rattle.std.proofs.lemmas.List.{length-set, get_or-set_same, get_or-set_other}
+use Rattle.orders.specs.declared.money.Cents.{Cents}
 use Rattle.ranking.specs.declared.node.Node.{Node}
 use Rattle.ranking.specs.declared.node.Hand.{Hand}
 use Rattle.ranking.specs.declared.node.Hand.TheVariants.{Left, Right}
@@ -102,25 +103,25 @@ times_fork k Left t m u = omega arith
 times_fork k Right t m u = omega arith
 
 -- what `join` leaves
-pub rep_fork : (h : Hand) (ns : List Node) (m i j n : ℕ) (t u : Tree) → Rep ns i t → Rep ns j u → times m t ≡ 0
+pub rep_fork : (h : Hand) (ns : List Node) (m i j n : ℕ) (c : Cents) (t u : Tree) → Rep ns i t → Rep ns j u → times m t ≡ 0
     → times m u ≡ 0 → m < length ns → m < 65535 → n ≡ size t + size u + 1
-    → Rep (set ns m (node_of h i j n)) m (fork h t m u)
-rep_fork h ns m i j n t u p q zt zu wm bm e = by_hand h
+    → Rep (set ns m (node_of h i j n c)) m (fork h t m u)
+rep_fork h ns m i j n c t u p q zt zu wm bm e = by_hand h
   where
     os : Hand → List Node
-    os g = set ns m (node_of g i j n)
+    os g = set ns m (node_of g i j n c)
 
-    sits : (g : Hand) → at (os g) m ≡ node_of g i j n
-    sits g = at_set_same ns m (node_of g i j n) wm
+    sits : (g : Hand) → at (os g) m ≡ node_of g i j n c
+    sits g = at_set_same ns m (node_of g i j n c) wm
 
     at_t : (g : Hand) → Rep (os g) i t
-    at_t g = rep_set ns i t m (node_of g i j n) zt p
+    at_t g = rep_set ns i t m (node_of g i j n c) zt p
 
     at_u : (g : Hand) → Rep (os g) j u
-    at_u g = rep_set ns j u m (node_of g i j n) zu q
+    at_u g = rep_set ns j u m (node_of g i j n c) zu q
 
     wide : (g : Hand) → m < length (os g)
-    wide g = omega (arith, length-set ns m (node_of g i j n))
+    wide g = omega (arith, length-set ns m (node_of g i j n c))
 
     by_hand : (g : Hand) → Rep (os g) m (fork g t m u)
     by_hand Left = (
@@ -146,17 +147,35 @@ pub became_keeps : (was ns : List Node) (i : ℕ) (t u : Tree) (j : ℕ) (v : Tr
 became_keeps was ns i t u j v b e ap' h =
     rep_keep was ns j v e (λ k p. b.rest k (let q = ap' k in omega arith)) h
 
-pub join_became : (h : Hand) (ns os : List Node) (m i j n : ℕ) (t u : Tree) → os ≡ set ns m (node_of h i j n)
-    → n ≡ size_at ns i + size_at ns j + 1 → Parts ns m i j t u → Became ns os m (fork h t m u) (node t m u)
+-- a slot that is written, and keeps its cents
+cents_set : (ns : List Node) (m : ℕ) (v : Node) → v.cents ≡ (at ns m).cents → m < length ns → (k : ℕ)
+    → (at (set ns m v) k).cents ≡ (at ns k).cents
+cents_set ns m v ev w k =
+    elim (cases_eq k m) [
+      | inl e ↦ ap (λ j. (at (set ns m v) j).cents) e ∙ ap (λ n. n.cents) (at_set_same ns m v w) ∙ ev
+          ∙ ap (λ j. (at ns j).cents) (sym e)
+      | inr d ↦ ap (λ n. n.cents) (at_set_other ns m k v d)
+    ]
+
+node_cents : (h : Hand) (i j n : ℕ) (c : Cents) → (node_of h i j n c).cents ≡ c
+node_cents Left i j n c = refl
+node_cents Right i j n c = refl
+
+pub join_became : (h : Hand) (ns os : List Node) (m i j n : ℕ) (t u : Tree)
+    → os ≡ set ns m (node_of h i j n (at ns m).cents) → n ≡ size_at ns i + size_at ns j + 1 → Parts ns m i j t u
+    → Became ns os m (fork h t m u) (node t m u)
 join_became h ns os m i j n t u e en p =
     let am = p.apart m in
     let hm = here_same m in
+    let v : Node = node_of h i j n (at ns m).cents in
     record {
       rep = subst (λ (xs : List Node). Rep xs m (fork h t m u)) (sym e)
-          (rep_fork h ns m i j n t u p.first p.second (omega arith) (omega arith) p.within p.below
+          (rep_fork h ns m i j n (at ns m).cents t u p.first p.second (omega arith) (omega arith) p.within p.below
           (omega (arith, size_rep ns i t p.first, size_rep ns j u p.second)));
       rest = λ k z. ap (λ (xs : List Node). at xs k) e
-          ∙ at_set_other ns m k (node_of h i j n) (λ q. let w = ap (λ (x : ℕ). here x m) q in omega arith);
+          ∙ at_set_other ns m k v (λ q. let w = ap (λ (x : ℕ). here x m) q in omega arith);
+      kept = λ k. ap (λ (xs : List Node). (at xs k).cents) e
+          ∙ cents_set ns m v (node_cents h i j n (at ns m).cents) p.within k;
     }
 
 pub some_rep : (ns : List Node) (i : ℕ) (t : Tree) → Rep ns i t → 0 < size t → i ≡ 65535 → ⊥

@@ -2,6 +2,7 @@
 -- their lists and their balance are proved. A tree is balanced if nowhere the one child weighs more than three times
 -- the other; its weight is one more than its size.
 use Rattle.std.specs.Prelude.{ℕ, ◌+◌, ◌-◌, ◌*◌, ◌≤◌, Bool, true, false, cond, Some, None, Option, ◌==◌, nat_lt}
+use Rattle.orders.specs.declared.money.Cents.{Cents}
 use Rattle.ranking.specs.declared.node.Node.{Node}
 use Rattle.ranking.specs.declared.node.Hand.{Hand}
 use Rattle.ranking.specs.declared.node.Hand.TheVariants.{Left, Right}
@@ -16,9 +17,9 @@ Balanced (node l m r) =
     (weight l ≤ 3 * weight r) × (weight r ≤ 3 * weight l) × Balanced l × Balanced r
 
 -- a node with one child on a hand, the far one, and one on the other
-abbrev pub node_of : Hand → ℕ → ℕ → ℕ → Node
-node_of Left near far n = record { left = far; right = near; count = n }
-node_of Right near far n = record { left = near; right = far; count = n }
+abbrev pub node_of : Hand → ℕ → ℕ → ℕ → Cents → Node
+node_of Left near far n c = record { left = far; right = near; count = n; cents = c }
+node_of Right near far n c = record { left = near; right = far; count = n; cents = c }
 
 abbrev pub outer_at : Hand → Node → ℕ
 outer_at Left n = n.left

@@ -1,13 +1,11 @@
 -- What a kind's order book holds: for each side the ranked list, from its tree.
-use Rattle.std.specs.Prelude.{◌≡◌, ℕ, Bool, true, not, ◌&&◌, ◌||◌, List, [], ◌∷◌, map, vec_items, vec_len, nat_lt}
+use Rattle.std.specs.Prelude.{◌≡◌, ℕ, true, List, [], ◌∷◌, map, vec_items, vec_len}
 use Rattle.std.specs.List.{AllByRecursion}
 use Rattle.orders.specs.declared.money.Cents.{Cents}
 use Rattle.ranking.specs.declared.book.Book.{Book}
 use Rattle.ranking.specs.declared.ranked.Side.{Side}
-use Rattle.ranking.specs.declared.ranked.Side.TheVariants.{Buyers, Sellers}
 use Rattle.ranking.specs.declared.ranked.Ranked.{Ranked}
 use Rattle.ranking.specs.Keys.{ranked_at}
-use Rattle.ranking.specs.Lists.{has}
 use Rattle.ranking.specs.Ranks.{before, own}
 use Rattle.ranking.specs.Sound.{side_tree}
 use Rattle.ranking.specs.Tree.{Tree, in_order, height}
@@ -22,15 +20,11 @@ tree s b = side_tree s (vec_items b.nodes) b.roots
 -- the members of a side with their numbers, in the order of the tree
 unfoldable pub listed : Side → Book → List Ranked
 unfolding tree
-listed s b = map (ranked_at (vec_items b.keys)) (in_order (tree s b))
+listed s b = map (ranked_at (vec_items b.nodes)) (in_order (tree s b))
 
 -- how many nodes stand one below the other at most
 abbrev pub depth : Side → Book → ℕ
 depth s b = height (tree s b)
-
--- a member that there is, and that is on neither side
-abbrev pub fresh : ℕ → Book → Bool
-fresh m b = nat_lt m (members b) && not (has m (listed Buyers b) || has m (listed Sellers b))
 
 -- each comes before all that are after it
 abbrev pub Ordered : Side → List Ranked → Type 0

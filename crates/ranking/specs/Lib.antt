@@ -4,8 +4,10 @@ pub mod Balance
 pub mod Slots
 pub mod Keys
 pub mod Sides
+pub mod Lending
 pub mod Sound
 pub mod Depth
 pub mod Lists
 pub mod Books
+pub mod Kinds
 pub mod Indexes

@@ -51,10 +51,11 @@ pub record HeldParts (ns : List Node) (m : ℕ) (i j : ℕ) : Type 0 where
   pub right : Tree
   pub parts : Parts ns m i j left right
 
--- slot i holds the tree t now, and no slot has changed but those of the tree u
+-- slot i holds the tree t now, no slot has changed but those of the tree u, and no member's cents
 pub record Became (was ns : List Node) (i : ℕ) (t u : Tree) : Type 0 where
   pub rep : Rep ns i t
   pub rest : (k : ℕ) → times k u ≡ 0 → at ns k ≡ at was k
+  pub kept : (k : ℕ) → (at ns k).cents ≡ (at was k).cents
 
 -- three trees and two slots between them
 pub record Trio (ns : List Node) (m x i j o : ℕ) (t u v : Tree) : Type 0 where

@@ -1,5 +1,5 @@
 -- A tree of members, and the tree that the slots of a row make. Slot m is member m's: its node names the slots of its
--- left and right child, 65535 for none, and counts the members below it with itself.
+-- left and right child, 65535 for none, counts the members below it with itself, and has the member's cents.
 use Rattle.std.specs.Prelude.{ℕ, zero, suc, ◌+◌, max, cond, List, [], ◌∷◌, ◌++◌, ◌==◌, slice_index_or}
 use Rattle.ranking.specs.declared.node.Node.{Node}
 
@@ -22,7 +22,7 @@ in_order (node l m r) = in_order l ++ m ∷ in_order r
 
 -- a slot in no tree
 abbrev pub blank : Node
-blank = record { left = 0; right = 0; count = 0 }
+blank = record { left = 0; right = 0; count = 0; cents = record { 0 = 0 } }
 
 abbrev pub at : List Node → ℕ → Node
 at ns i = slice_index_or ns i blank

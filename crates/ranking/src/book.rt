@@ -5,14 +5,12 @@ ghost use Rattle.ranking.specs.Sound.{Sound};
 mod methods;
 
 use crate::node::Node;
-use crate::roots::Roots;
-use orders::Cents;
+use crate::sides::Sides;
 
 #[derive(Drop)]
 pub struct Book {
+    // By member.
     nodes: Vec<Node>,
-    // The number with which a member stands, by member; of a member in neither tree, any.
-    keys: Vec<Cents>,
-    roots: Roots,
-    ghost sound: { ∥ Sound nodes.items keys.items roots ∥₁ },
+    roots: Sides<u16>,
+    ghost sound: { ∥ Sound nodes.items roots ∥₁ },
 }

@@ -6,7 +6,7 @@ ghost use Rattle.ranking.specs.Sound.{Booked, Fresh, list_of, Sound};
 
 use crate::node::{NONE, Node};
 use crate::ranked::{Ranked, Side};
-use crate::roots::Roots;
+use crate::sides::Sides;
 use crate::tree::size_of;
 use crate::walk::{insert, remove};
 use orders::Cents;
@@ -16,46 +16,36 @@ pub const FREE: Node = Node {
     left: NONE,
     right: NONE,
     count: 0,
+    cents: Cents(0),
 };
 
 // Puts a member that is on neither side into one, with its number.
-pub(crate) fn enter(
-    nodes: &mut [Node],
-    keys: &mut [Cents],
-    roots: Roots,
-    side: Side,
-    new: Ranked,
-) -> Roots
-    requires { Fresh nodes.old keys.old roots new.member }
-    ensures { Booked side nodes.old keys.old roots nodes.new keys.new result (inserted side own new (list_of side nodes.old keys.old roots)) }
+pub(crate) fn enter(nodes: &mut [Node], roots: Sides<u16>, side: Side, new: Ranked) -> Sides<u16>
+    requires { Fresh nodes.old roots new.member }
+    ensures { Booked side nodes.old roots nodes.new result (inserted side own new (list_of side nodes.old roots)) }
 {
-    keys[new.member as usize] = new.cents;
-    let root = insert(nodes, keys, side, roots.of(side), new);
+    nodes[new.member as usize].cents = new.cents;
+    let root = insert(nodes, side, roots.of(side), new);
     roots.with(side, root)
 }
 
 // Takes a member out of a side, if it is there.
-pub(crate) fn leave(
-    nodes: &mut [Node],
-    keys: &[Cents],
-    roots: Roots,
-    side: Side,
-    member: u16,
-) -> Roots
-    requires sound { Sound nodes.old keys.now roots }
+pub(crate) fn leave(nodes: &mut [Node], roots: Sides<u16>, side: Side, member: u16) -> Sides<u16>
+    requires sound { Sound nodes.old roots }
     requires within { member < length nodes.old }
-    ensures { Booked side nodes.old keys.now roots nodes.new keys.now result (less member (list_of side nodes.old keys.now roots)) }
+    ensures { Booked side nodes.old roots nodes.new result (less member (list_of side nodes.old roots)) }
 {
+    let slot = member as usize;
     let gone = Ranked {
         member,
-        cents: keys[member as usize],
+        cents: nodes[slot].cents,
     };
     let root = roots.of(side);
     let before = size_of(nodes, root);
-    let rest = remove(nodes, keys, side, root, gone);
+    let rest = remove(nodes, side, root, gone);
     if size_of(nodes, rest) == before {
         return roots.with(side, rest);
     }
-    nodes[member as usize] = FREE;
+    nodes[slot] = FREE;
     roots.with(side, rest)
 }

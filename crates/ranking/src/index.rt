@@ -4,6 +4,6 @@ mod methods;
 use crate::book::Book;
 
 #[derive(Drop)]
-pub struct Index {
-    books: Vec<Book>,
+pub struct Index<B = Book> {
+    books: Vec<B>,
 }

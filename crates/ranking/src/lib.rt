@@ -6,10 +6,14 @@ mod booking;
 mod index;
 mod lookup;
 mod node;
+mod order_book;
 mod ranked;
-mod roots;
+mod sides;
 mod tree;
 mod walk;
 
+pub use book::Book;
 pub use index::Index;
+pub use order_book::OrderBook;
 pub use ranked::{Ranked, Side};
+pub use sides::Sides;

@@ -1,5 +1,5 @@
 // What is asked of a tree.
-ghost use Rattle.std.specs.Prelude.{◌≡◌, ℕ, length};
+ghost use Rattle.std.specs.Prelude.{◌≡◌};
 ghost use Rattle.ranking.specs.Balance.{passed, picked};
 ghost use Rattle.ranking.specs.Keys.{follows};
 ghost use Rattle.ranking.specs.Slots.{Held, Stands};
@@ -8,19 +8,11 @@ ghost use Rattle.ranking.specs.Tree.{Tree};
 use crate::node::{NONE, Node};
 use crate::ranked::{Ranked, Side};
 use crate::tree::size_of;
-use orders::Cents;
 
 // How many members of a tree come before one that need not be there.
-pub(crate) fn count_before(
-    nodes: &[Node],
-    keys: &[Cents],
-    side: Side,
-    root: u16,
-    limit: Ranked,
-) -> u16
-    requires tree { Held nodes.now root }
-    requires keys { length keys.now ≡ length nodes.now }
-    ensures { (t : Tree) → Stands nodes.now root t → result ≡ passed (follows side keys.now limit) t }
+pub(crate) fn count_before(nodes: &[Node], side: Side, root: u16, limit: Ranked) -> u16
+    requires { Held nodes.now root }
+    ensures { (t : Tree) → Stands nodes.now root t → result ≡ passed (follows side nodes.now limit) t }
 {
     let mut count = 0;
     let mut slot = root;
@@ -28,7 +20,7 @@ pub(crate) fn count_before(
         let top = nodes[slot as usize];
         let there = Ranked {
             member: slot,
-            cents: keys[slot as usize],
+            cents: top.cents,
         };
         if there.comes_before(side, limit) {
             count += size_of(nodes, top.left) + 1;

@@ -2,6 +2,8 @@
 ghost use Rattle.std.specs.Prelude.{◌≡◌};
 ghost use Rattle.ranking.specs.Balance.{node_of, inner_at, outer_at, hand_of, other};
 
+use orders::Cents;
+
 // No node: a number past every member.
 pub const NONE: u16 = 0xffff;
 
@@ -30,29 +32,33 @@ impl Hand {
     }
 }
 
-// Its children's slots, and how many members are in the tree below it, itself among them; 0 for a slot in no tree.
+// Its children's slots, and how many members are in the tree below it, itself among them; 0 for a slot in no tree. The
+// cents are those with which its member stands; of a slot in no tree, any.
 #[derive(Clone, Copy)]
 pub struct Node {
     pub left: u16,
     pub right: u16,
     pub count: u16,
+    pub cents: Cents,
 }
 
 impl Node {
-    // A node with a child on a hand, `far`, and one on the other, `near`.
-    pub(crate) fn of(hand: Hand, near: u16, far: u16, count: u16) -> Node
-        ensures { result ≡ node_of hand near far count }
+    // The same member's node with a child on a hand, `far`, and one on the other, `near`.
+    pub(crate) fn over(self, hand: Hand, near: u16, far: u16, count: u16) -> Node
+        ensures { result ≡ node_of hand near far count self.cents }
     {
         match hand {
             Hand::Left => Node {
                 left: far,
                 right: near,
                 count,
+                ..self
             },
             Hand::Right => Node {
                 left: near,
                 right: far,
                 count,
+                ..self
             },
         }
     }

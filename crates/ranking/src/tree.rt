@@ -32,7 +32,8 @@ pub(crate) fn join(nodes: &mut [Node], hand: Hand, root: u16, near: u16, far: u1
     ensures { (t u : Tree) → Parts nodes.old root near far t u → Became nodes.old nodes.new root (fork hand t root u) (node t root u) }
 {
     let count = size_of(nodes, near) + size_of(nodes, far) + 1;
-    nodes[root as usize] = Node::of(hand, near, far, count);
+    let slot = root as usize;
+    nodes[slot] = nodes[slot].over(hand, near, far, count);
 }
 
 // Makes one tree of `near`, `inner` and `outer`, with `root` and `far` between them, and the root of `inner` on top.

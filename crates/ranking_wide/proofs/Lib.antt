@@ -1,9 +1,7 @@
 mod AllKinds
-mod Answering
+mod Booked
 mod Counting
 mod Growth
-mod Halving
-mod Moves
 mod Ordering
 mod Places
 mod Rising

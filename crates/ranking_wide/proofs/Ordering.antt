@@ -2,43 +2,24 @@
 use Rattle.std.proofs.Common.{◌≡◌, ℕ, zero, suc, ◌+◌, ◌*◌, ◌/◌, ◌%◌, ◌^◌, ◌<◌, Bool, true, false, cond, not, ◌||◌, eqb, ltb, List, [], ◌∷◌, map, Some, count_by, filter, sym, refl, ap, ◌∙◌, zero-add, arith}
 use Rattle.std.specs.Option.{option_map}
 use Rattle.std.specs.List.{AllByRecursion, slice_get}
-use Rattle.std.proofs.lemmas.Nat.{div-add-mod', div_below, div-mul-add, mod_below, mod-mul-add}
+use Rattle.std.proofs.lemmas.Nat.{div-add-mod', div_below, mod_below}
 use Rattle.std.proofs.lemmas.List.Sums.{sum_by-cons}
 use Rattle.std.proofs.lemmas.Bool.{lt-ltb}
 use Rattle.std.proofs.lemmas.Bool.Decides.{nat_tests}
 use Rattle.ranking.specs.declared.ranked.Side.{Side}
 use Rattle.ranking.specs.declared.ranked.Side.TheVariants.{Buyers, Sellers}
-use Rattle.ranking.specs.declared.ranked.Ranked.{Ranked}
-use Rattle.ranking_wide.specs.Keys.{key_of, ranked_of, worth}
-use Rattle.ranking_wide.specs.Books.{Ordered}
+use Rattle.ranking_wide.specs.Keys.{ranked_of, worth}
+use Rattle.ranking.specs.Books.{Ordered}
 use Rattle.ranking_wide.specs.Leaves.{Ascending, placed}
 use Rattle.ranking.specs.Lists.{has, less}
 use Rattle.ranking.specs.Ranks.{before, insert, own}
-
-pub worth_below : (s : Side) (c : ℕ) → c < 2 ^ 32 → worth s c < 2 ^ 32
-worth_below Buyers c p = omega arith
-worth_below Sellers c p = p
 
 pub worth_back : (s : Side) (c : ℕ) → c < 2 ^ 32 → worth s (worth s c) ≡ c
 worth_back Buyers c p = omega arith
 worth_back Sellers c p = refl
 
-pub key_bound : (s : Side) (x : Ranked) → x.member < 65536 → x.cents.0 < 2 ^ 32 → key_of s x < 2 ^ 48
-key_bound s x p q = omega (arith, worth_below s x.cents.0 q)
-
-ranked_is : (m n : ℕ) (c d : ℕ) → m ≡ n → c ≡ d → ◌≡◌ {A = Ranked} (record { member = m; cents = record { 0 = c } }) (record { member = n; cents = record { 0 = d } })
-ranked_is m n c d p q = cc
-
-pub key_back : (s : Side) (x : Ranked) → x.member < 65536 → x.cents.0 < 2 ^ 32 → ranked_of s (key_of s x) ≡ x
-key_back s x p q =
-    ranked_is _ _ _ _ (mod-mul-add (worth s x.cents.0) 65536 x.member p)
-    (ap (worth s) (div-mul-add (worth s x.cents.0) 65536 x.member p) ∙ worth_back s x.cents.0 q)
-
 upper_below : (k : ℕ) → k < 2 ^ 48 → k / 65536 < 2 ^ 32
 upper_below k p = div_below k 65536 (2 ^ 32) (omega arith) p
-
-pub ranked_back : (s : Side) (k : ℕ) → k < 2 ^ 48 → key_of s (ranked_of s k) ≡ k
-ranked_back s k p = ap (λ c. c * 65536 + k % 65536) (worth_back s (k / 65536) (upper_below k p)) ∙ div-add-mod' k 65536
 
 pub before_keys : (s : Side) (j k : ℕ) → j < 2 ^ 48 → k < 2 ^ 48 → before s own (ranked_of s j) (ranked_of s k) ≡ ltb j k
 before_keys s j k p q =

@@ -1,7 +1,6 @@
 -- Elements of a list that are set, put in beside and taken out.
-use Rattle.std.proofs.Common.{◌≡◌, ℕ, zero, suc, ◌+◌, ◌<◌, List, [], ◌∷◌, ◌++◌, map, length, get_or, take, drop, set, Some, sym, refl, ap, ◌∙◌, arith}
+use Rattle.std.proofs.Common.{◌≡◌, ℕ, zero, suc, ◌+◌, ◌<◌, List, [], ◌∷◌, ◌++◌, length, get_or, take, drop, set, Some, refl, ap, ◌∙◌, arith}
 use Rattle.std.specs.List.{insert, remove, slice_get}
-use Rattle.std.proofs.lemmas.List.{drop-map, map-append, take-map}
 
 module _ {X : Type 0} where
   -- two neighbours, with those before them and those after them
@@ -34,20 +33,3 @@ module _ {X : Type 0} where
   nth_back (x ∷ xs) ys i =
       let e : suc (length xs) + i ≡ suc (length xs + i) = omega arith in
       ap (slice_get (x ∷ (xs ++ ys))) e ∙ nth_back xs ys i
-
-module _ {X Y : Type 0} (f : X → Y) where
-  pub map_removed : (xs : List X) (i : ℕ) → map f (remove xs i) ≡ remove (map f xs) i
-  map_removed xs i =
-      map-append f (take i xs) (drop (suc i) xs)
-      ∙ ap (λ zs. zs ++ map f (drop (suc i) xs)) (sym (take-map f i xs)) ∙ ap (λ zs. take i (map f xs) ++ zs) (sym (drop-map f (suc i) xs))
-
-  pub map_inserted : (xs : List X) (i : ℕ) (y : X) → map f (insert xs i y) ≡ insert (map f xs) i (f y)
-  map_inserted xs i y =
-      map-append f (take i xs) (y ∷ drop i xs)
-      ∙ ap (λ zs. zs ++ f y ∷ map f (drop i xs)) (sym (take-map f i xs)) ∙ ap (λ zs. take i (map f xs) ++ f y ∷ zs) (sym (drop-map f i xs))
-
-  -- an element that is set and has the same image
-  pub map_set_same : (xs : List X) (i : ℕ) (y d : X) → f y ≡ f (get_or xs i d) → map f (set xs i y) ≡ map f xs
-  map_set_same [] i y d e = refl
-  map_set_same (x ∷ xs) zero y d e = ap (λ z. z ∷ map f xs) e
-  map_set_same (x ∷ xs) (suc i) y d e = ap (λ zs. f x ∷ zs) (map_set_same xs i y d e)

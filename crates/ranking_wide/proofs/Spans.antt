@@ -81,9 +81,6 @@ module _ (fs bs : List Leaf) (l : Leaf) (hi : ℕ) (h : Spans (fs ++ l ∷ bs) h
     from_swap n =
         from_append fs (ms ++ bs) n ∙ ap (from fs) (from_append ms bs n ∙ e (from bs n)) ∙ sym (from_append fs (l ∷ bs) n)
 
-    pub laid_three : laid (fs ++ (ms ++ bs)) ≡ laid fs ++ (laid ms ++ laid bs)
-    laid_three = laid_append fs (ms ++ bs) ∙ ap (λ ks. laid fs ++ ks) (laid_append ms bs)
-
   module _ (k : ℕ) (p : l.low ≤ k) (q : k < from bs hi) where
     pub placed_at : placed k (laid (fs ++ l ∷ bs)) ≡ laid fs ++ (placed k (part l) ++ laid bs)
     placed_at =
@@ -113,6 +110,6 @@ module _ (fs bs : List Leaf) (l : Leaf) (hi : ℕ) (h : Spans (fs ++ l ∷ bs) h
           count_none k (laid bs) (All-weaker _ (λ x. k ≤ x) (λ x g. omega arith) (laid bs) after_high),
         )
 
-pub few_each : (ls : List Leaf) (hi : ℕ) → Spans ls hi → AllByRecursion (λ n. n ≤ 32) (map (λ l. l.count) ls)
+pub few_each : (ls : List Leaf) (hi : ℕ) → Spans ls hi → AllByRecursion (λ n. n ≤ 32) (map (λ l. length (part l)) ls)
 few_each [] hi h = tt
 few_each (l ∷ ls) hi h = (h.0.few, few_each ls hi h.1)

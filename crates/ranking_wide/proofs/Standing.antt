@@ -13,16 +13,17 @@ use Rattle.ranking.specs.declared.ranked.Side.{Side}
 use Rattle.ranking.specs.declared.ranked.Side.TheVariants.{Buyers, Sellers}
 use Rattle.ranking.specs.declared.ranked.Ranked.{Ranked}
 use Rattle.ranking_wide.specs.declared.tree.Tree.{Tree}
-use Rattle.ranking_wide.specs.Books.{ranked_as, way}
+use Rattle.ranking_wide.specs.Books.{way}
 use Rattle.ranking_wide.specs.Keys.{ranked_of, worth}
 use Rattle.ranking_wide.specs.Leaves.{placed, without}
 use Rattle.ranking.specs.Lists.{has, less}
-use Rattle.ranking.specs.Ranks.{insert, on_side, own}
+use Rattle.ranking.specs.Ranks.{on_side}
 use Rattle.ranking.specs.Sides.{opposite}
-use Rattle.ranking_wide.specs.Sound.{entry_on, is_on, Kept, mark, mark_on, member_of, Sound, tree_of}
-use Rattle.ranking_wide.specs.Trees.{Grown, Held, keys_of, leaves_of, Roomy}
-use Rattle.ranking_wide.proofs.Ordering.{has_counted, map_kept, map_placed, same_key}
+use Rattle.ranking_wide.specs.Sound.{entry_on, is_on, Kept, mark, mark_on, member_of}
+use Rattle.ranking_wide.specs.Trees.{Held, keys_of, leaves_of, Roomy}
+use Rattle.ranking_wide.proofs.Ordering.{has_counted, same_key}
 use Rattle.ranking_wide.proofs.Rising.{all_placed, length_placed}
+use Rattle.ranking_wide.proofs.Sounds.{grown_from}
 use Rattle.ranking_wide.proofs.Spans.{spans_below}
 
 pub mark_nothing : (s : Side) → mark_on s Nothing ≡ 0
@@ -101,7 +102,6 @@ module _ (s : Side) (t : Tree) (es : List Entry) (m : ℕ) (e : Entry) (h : Kept
   pub kept_other : Kept s t (set es m e)
   kept_other =
       record {
-        grown = h.grown;
         stands = All-weaker _ _ (λ k g. same_mark (member_of k) ∙ g) (keys_of t) h.stands;
         once = λ n. h.once n ∙ ap on_bit (sym (same_mark n));
         many = h.many ∙ omega (arith, sum_by-set (λ x. cond (is_on s x) 1 0) es m e Nothing p, ap on_bit z);
@@ -142,7 +142,6 @@ module _ (s : Side) (t : Tree) (es : List Entry) (m k : ℕ) (c : Cents) (h : Ke
   pub kept_put : (u : Tree) → Held t u (placed k (keys_of t)) → Kept s u (set es m (entry_on s c))
   kept_put u w =
       record {
-        grown = w.grown;
         stands = subst (AllByRecursion (λ j. mark_on s (get_or (set es m (entry_on s c)) (member_of j) Nothing) ≡ suc (worth s (j / 65536)))) (sym w.keys)
             (all_placed (λ j. mark_on s (get_or (set es m (entry_on s c)) (member_of j) Nothing) ≡ suc (worth s (j / 65536))) k (keys_of t)
             (ap (λ i. mark_on s (get_or (set es m (entry_on s c)) i Nothing)) ek ∙ here ∙ ap suc (sym ec))
@@ -198,12 +197,11 @@ module _ (s : Side) (t : Tree) (es : List Entry) (m k : ℕ) (c : ℕ) (h : Kept
           ]
 
   pub keys_left : (u : Tree) → Held t u (without k (keys_of t)) → keys_of u ≡ filter (λ j. not (eqb (member_of j) m)) (keys_of t)
-  keys_left u w = w.keys ∙ only_key (keys_of t) (spans_below (leaves_of t) (2 ^ 48) h.grown.spans) h.stands
+  keys_left u w = w.keys ∙ only_key (keys_of t) (spans_below (leaves_of t) (2 ^ 48) (grown_from t.grown).spans) h.stands
 
   pub kept_take : (u : Tree) → Held t u (without k (keys_of t)) → Kept s u (set es m Nothing)
   kept_take u w =
       record {
-        grown = w.grown;
         stands = subst (AllByRecursion (λ j. mark_on s (get_or (set es m Nothing) (member_of j) Nothing) ≡ suc (worth s (j / 65536)))) (sym (keys_left u w)) (left (keys_of t) h.stands);
         once = λ n. ap (count_by (λ j. eqb (member_of j) n)) (keys_left u w) ∙ counted n;
         many = ap length (keys_left u w) ∙ omega (
@@ -291,11 +289,10 @@ none_on s (suc n) =
     sum_by-cons (λ x. cond (is_on s x) 1 0) Nothing (replicate n Nothing)
     ∙ omega (arith, ap on_bit (mark_nothing s), none_on s n)
 
-pub kept_new : (s : Side) (t : Tree) (es : List Entry) (n : ℕ) → es ≡ replicate n Nothing → Grown t → keys_of t ≡ [] → 2 * n + 33 < 33 * t.most
+pub kept_new : (s : Side) (t : Tree) (es : List Entry) (n : ℕ) → es ≡ replicate n Nothing → keys_of t ≡ [] → 2 * n + 33 < 33 * t.most
     → 16 * t.most ≤ n + 32 → Kept s t es
-kept_new s t es n e g k p q =
+kept_new s t es n e k p q =
     record {
-      grown = g;
       stands = subst (AllByRecursion (λ j. mark_on s (get_or es (member_of j) Nothing) ≡ suc (worth s (j / 65536)))) (sym k) tt;
       once = λ m. ap (count_by (λ j. eqb (member_of j) m)) k
           ∙ sym (ap on_bit (ap (λ zs. mark_on s (get_or zs m Nothing)) e ∙ ap (mark_on s) (nothing_at n m) ∙ mark_nothing s));
@@ -304,7 +301,7 @@ kept_new s t es n e g k p q =
       narrow = omega (arith, ap length e, length-replicate n Nothing);
     }
 
-some_mark : (s : Side) (e : Entry) (c : Cents) → on_side s e ≡ Some c → (mark_on s e ≡ suc c.0) × (mark_on (opposite s) e ≡ 0)
+pub some_mark : (s : Side) (e : Entry) (c : Cents) → on_side s e ≡ Some c → (mark_on s e ≡ suc c.0) × (mark_on (opposite s) e ≡ 0)
 some_mark Buyers Nothing c g = let z : ◌≡◌ {A = ℕ} 0 1 = cc in absurd (omega arith)
 some_mark Buyers (Bid d) c g = (ap mark g, refl)
 some_mark Buyers (Ask d) c g = let z : ◌≡◌ {A = ℕ} 0 1 = cc in absurd (omega arith)
@@ -318,61 +315,3 @@ way_short (k ∷ ks) = omega arith
 
 pub there_on : (s : Side) (e : Entry) (c : Cents) → on_side s e ≡ Some c → is_on s e ≡ true
 there_on s e c g = ap (ltb 0) (some_mark s e c g).0 ∙ lt-ltb 0 (suc c.0) (omega arith)
-
-module _ (b t : Tree) (es : List Entry) (h : Sound b t es) (s : Side) where
-  pub below_all : AllByRecursion (λ k. k < 2 ^ 48) (keys_of (tree_of s b t))
-  below_all = spans_below (leaves_of (tree_of s b t)) (2 ^ 48) (h.sides s).grown.spans
-
-  pub few_keys : length (keys_of (tree_of s b t)) ≤ 65535
-  few_keys = omega (arith, (h.sides s).many, count_by-le-length (is_on s) es, h.few)
-
-  module _ (m k : ℕ) (c : Cents) (p : m < length es) (back : ranked_of s k ≡ ranked_as m c) where
-    ek : member_of k ≡ m
-    ek = ap (λ (x : Ranked). x.member) back
-
-    ec : worth s (k / 65536) ≡ c.0
-    ec = ap (λ (x : Ranked). x.cents.0) back
-
-    pub ready : get_or es m Nothing ≡ Nothing → Roomy (tree_of s b t) × AllByRecursion (λ j. j ≡ k → ⊥) (keys_of (tree_of s b t))
-    ready z =
-        let g = ap (mark_on s) z ∙ mark_nothing s in
-        (roomy s (tree_of s b t) es m k c (h.sides s) p g ek ec, key_new s (tree_of s b t) es m k c (h.sides s) p g ek ec)
-
-    module _ (b' t' : Tree) (o : tree_of (opposite s) b' t' ≡ tree_of (opposite s) b t) where
-      pub sound_put : get_or es m Nothing ≡ Nothing → Held (tree_of s b t) (tree_of s b' t') (placed k (keys_of (tree_of s b t)))
-          → Sound b' t' (set es m (entry_on s c))
-      sound_put z w =
-          record {
-            sides = by_side s (λ x. Kept x (tree_of x b' t') (set es m (entry_on s c)))
-                (kept_put s (tree_of s b t) es m k c (h.sides s) p (ap (mark_on s) z ∙ mark_nothing s) ek ec (tree_of s b' t') w)
-                (subst (λ (u : Tree). Kept (opposite s) u (set es m (entry_on s c))) (sym o)
-                (kept_other (opposite s) (tree_of (opposite s) b t) es m (entry_on s c) (h.sides (opposite s)) p
-                (mark_opposite s c ∙ sym (ap (mark_on (opposite s)) z ∙ mark_nothing (opposite s)))));
-            few = omega (arith, h.few, length-set es m (entry_on s c));
-          }
-
-      pub sound_take : on_side s (get_or es m Nothing) ≡ Some c → k < 2 ^ 48 → Held (tree_of s b t) (tree_of s b' t') (without k (keys_of (tree_of s b t)))
-          → Sound b' t' (set es m Nothing)
-      sound_take z q w =
-          let g = some_mark s (get_or es m Nothing) c z in
-          record {
-            sides = by_side s (λ x. Kept x (tree_of x b' t') (set es m Nothing))
-                (kept_take s (tree_of s b t) es m k c.0 (h.sides s) p q g.0 ek ec (tree_of s b' t') w)
-                (subst (λ (u : Tree). Kept (opposite s) u (set es m Nothing)) (sym o)
-                (kept_other (opposite s) (tree_of (opposite s) b t) es m Nothing (h.sides (opposite s)) p
-                (mark_nothing (opposite s) ∙ sym g.1)));
-            few = omega (arith, h.few, length-set es m Nothing);
-          }
-
-      pub listed_put : k < 2 ^ 48 → Held (tree_of s b t) (tree_of s b' t') (placed k (keys_of (tree_of s b t)))
-          → map (ranked_of s) (keys_of (tree_of s b' t')) ≡ insert s own (ranked_as m c) (map (ranked_of s) (keys_of (tree_of s b t)))
-      listed_put q w =
-          ap (map (ranked_of s)) w.keys ∙ map_placed s k (keys_of (tree_of s b t)) q below_all
-          ∙ ap (λ x. insert s own x (map (ranked_of s) (keys_of (tree_of s b t)))) back
-
-      pub listed_take : on_side s (get_or es m Nothing) ≡ Some c → k < 2 ^ 48 → Held (tree_of s b t) (tree_of s b' t') (without k (keys_of (tree_of s b t)))
-          → map (ranked_of s) (keys_of (tree_of s b' t')) ≡ less m (map (ranked_of s) (keys_of (tree_of s b t)))
-      listed_take z q w =
-          ap (map (ranked_of s))
-          (keys_left s (tree_of s b t) es m k c.0 (h.sides s) p q (some_mark s (get_or es m Nothing) c z).0 ek ec (tree_of s b' t') w)
-          ∙ map_kept s m (keys_of (tree_of s b t))

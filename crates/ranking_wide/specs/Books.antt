@@ -1,16 +1,13 @@
 -- What a kind's order book holds: for each side the ranked list, from its tree.
-use Rattle.std.specs.Prelude.{◌≡◌, ℕ, Bool, true, not, ◌&&◌, ◌||◌, List, [], ◌∷◌, map, vec_len, nat_lt}
+use Rattle.std.specs.Prelude.{ℕ, ◌+◌, ◌*◌, ◌≤◌, List, [], ◌∷◌, map, length, vec_len}
 use Rattle.std.specs.List.{AllByRecursion}
-use Rattle.orders.specs.declared.money.Cents.{Cents}
 use Rattle.ranking_wide.specs.declared.book.Book.{Book}
 use Rattle.ranking.specs.declared.ranked.Side.{Side}
-use Rattle.ranking.specs.declared.ranked.Side.TheVariants.{Buyers, Sellers}
 use Rattle.ranking.specs.declared.ranked.Ranked.{Ranked}
 use Rattle.ranking_wide.specs.declared.tree.Tree.{Tree}
 use Rattle.ranking_wide.specs.Keys.{ranked_of}
-use Rattle.ranking.specs.Lists.{has}
-use Rattle.ranking.specs.Ranks.{before, own}
-use Rattle.ranking_wide.specs.Sound.{tree_of}
+use Rattle.ranking_wide.specs.Leaves.{part}
+use Rattle.ranking.specs.Sides.{of_side}
 use Rattle.ranking_wide.specs.Trees.{keys_of, leaves_of}
 
 -- how many members there are, on a side or not
@@ -18,7 +15,7 @@ unfoldable pub members : Book → ℕ
 members b = vec_len b.entries
 
 unfoldable pub tree : Side → Book → Tree
-tree s b = tree_of s b.buyers b.sellers
+tree s b = of_side s b.trees
 
 -- the members of a side with their numbers, in the order of the tree
 unfoldable pub listed : Side → Book → List Ranked
@@ -36,16 +33,9 @@ depth s b = way (keys_of (tree s b))
 -- the counts of the leaves of a side's tree
 unfoldable pub counts : Side → Book → List ℕ
 unfolding tree
-counts s b = map (λ l. l.count) (leaves_of (tree s b))
+counts s b = map (λ l. length (part l)) (leaves_of (tree s b))
 
--- a member that there is, and that is on neither side
-abbrev pub fresh : ℕ → Book → Bool
-fresh m b = nat_lt m (members b) && not (has m (listed Buyers b) || has m (listed Sellers b))
-
--- each comes before all that are after it
-abbrev pub Ordered : Side → List Ranked → Type 0
-Ordered s [] = Unit {0}
-Ordered s (x ∷ xs) = AllByRecursion (λ y. before s own x y ≡ true) xs × Ordered s xs
-
-abbrev pub ranked_as : ℕ → Cents → Ranked
-ranked_as m c = record { member = m; cents = c }
+-- what a book says of a side's tree: its leaves have 32 keys at most, and there are not many of them
+pub record Narrow (s : Side) (b : Book) : Type 0 where
+  pub leaves : AllByRecursion (λ n. n ≤ 32) (counts s b)
+  pub root : 16 * length (counts s b) ≤ members b + 32

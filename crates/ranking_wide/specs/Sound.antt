@@ -7,10 +7,12 @@ use Rattle.orders.specs.declared.entry.Entry.TheVariants.{Nothing, Bid, Ask}
 use Rattle.orders.specs.declared.money.Cents.{Cents}
 use Rattle.ranking.specs.declared.ranked.Side.{Side}
 use Rattle.ranking.specs.declared.ranked.Side.TheVariants.{Buyers, Sellers}
+use Rattle.ranking.specs.declared.sides.Sides.{Sides}
+use Rattle.ranking.specs.Sides.{of_side}
 use Rattle.ranking_wide.specs.declared.tree.Tree.{Tree}
 use Rattle.ranking_wide.specs.Keys.{worth}
 use Rattle.ranking.specs.Ranks.{on_side}
-use Rattle.ranking_wide.specs.Trees.{Grown, keys_of}
+use Rattle.ranking_wide.specs.Trees.{keys_of}
 
 -- the entry with which a member stands on a side
 abbrev pub entry_on : Side → Cents → Entry
@@ -32,18 +34,13 @@ abbrev pub member_of : ℕ → ℕ
 member_of k = k % 65536
 
 pub record Kept (s : Side) (t : Tree) (es : List Entry) : Type 0 where
-  pub grown : Grown t
   pub stands : AllByRecursion (λ k. mark_on s (slice_index_or es (member_of k) Nothing) ≡ suc (worth s (k / 65536))) (keys_of t)
   pub once : (m : ℕ) → count_by (λ k. nat_eq (member_of k) m) (keys_of t) ≡ cond (is_on s (slice_index_or es m Nothing)) 1 0
   pub many : length (keys_of t) ≡ count_by (is_on s) es
   pub place : 2 * length es + 33 < 33 * t.most
   pub narrow : 16 * t.most ≤ length es + 32
 
-abbrev pub tree_of : Side → Tree → Tree → Tree
-tree_of Buyers b t = b
-tree_of Sellers b t = t
-
--- the tree of the buyers, that of the sellers, and the members' entries
-pub record Sound (b t : Tree) (es : List Entry) : Type 0 where
-  pub sides : (s : Side) → Kept s (tree_of s b t) es
+-- the trees of the buyers and of the sellers, and the members' entries
+pub record Sound (ts : Sides Tree) (es : List Entry) : Type 0 where
+  pub sides : (s : Side) → Kept s (of_side s ts) es
   pub few : length es ≤ 65535

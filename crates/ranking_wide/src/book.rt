@@ -6,12 +6,12 @@ mod methods;
 
 use crate::tree::Tree;
 use orders::Entry;
+use ranking::Sides;
 
 #[derive(Drop)]
 pub struct Book {
-    buyers: Tree,
-    sellers: Tree,
+    trees: Sides<Tree>,
     // What a member has in the kind, by member.
     entries: Vec<Entry>,
-    ghost sound: { ∥ Sound buyers sellers entries.items ∥₁ },
+    ghost sound: { ∥ Sound trees entries.items ∥₁ },
 }

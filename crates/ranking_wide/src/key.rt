@@ -18,21 +18,30 @@ fn worth(side: Side, cents: u32) -> u32
     }
 }
 
-pub(crate) fn key_of(side: Side, ranked: Ranked) -> u64
-    ensures value { result ≡ key_of side ranked }
-    ensures bound { result < 2 ^ 48 }
-    ensures back { ranked_of side result ≡ ranked }
-{
-    let Cents(cents) = ranked.cents;
-    u64::from(worth(side, cents)) * MEMBERS + u64::from(ranked.member)
+#[derive(Clone, Copy)]
+pub struct Key {
+    pub number: u64,
+    ghost below: { number < 2 ^ 48 },
 }
 
-pub(crate) fn ranked_of(side: Side, key: u64) -> Ranked
-    requires { key < 2 ^ 48 }
-    ensures { result ≡ ranked_of side key }
-{
-    Ranked {
-        member: (key % MEMBERS) as u16,
-        cents: Cents(worth(side, (key / MEMBERS) as u32)),
+impl Key {
+    pub(crate) fn of(side: Side, ranked: Ranked) -> Key
+        ensures value { result.number ≡ key_of side ranked }
+        ensures back { ranked_of side result.number ≡ ranked }
+    {
+        let Cents(cents) = ranked.cents;
+        Key {
+            number: u64::from(worth(side, cents)) * MEMBERS + u64::from(ranked.member),
+        }
+    }
+
+    // The member and its number again.
+    pub(crate) fn ranked(self, side: Side) -> Ranked
+        ensures { result ≡ ranked_of side self.number }
+    {
+        Ranked {
+            member: (self.number % MEMBERS) as u16,
+            cents: Cents(worth(side, (self.number / MEMBERS) as u32)),
+        }
     }
 }

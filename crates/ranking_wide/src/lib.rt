@@ -2,9 +2,10 @@
 #![tactic(auto)]
 
 mod book;
-mod index;
 mod key;
 mod leaf;
 mod tree;
 
-pub use index::Index;
+pub use book::Book;
+
+pub type Index = ranking::Index<Book>;

@@ -1,21 +1,27 @@
 -- From the fields of a kind to the answer of the checker.
-use Rattle.std.proofs.Common.{◌≡◌, ℕ, suc, ◌+◌, ◌-◌, ◌*◌, ◌<◌, ◌≤◌, true, false, List, length, get_or, take, drop, is_some, Some, None, Ok, Err, Result, sym, ap, ◌∙◌, ap₂, add-one, arith}
-use Rattle.std.proofs.lemmas.List.{take_at, length-map, at_drop_more, at_drop_all}
-use Rattle.std.proofs.lemmas.Bool.{cond-true, cond-false}
+use Rattle.std.proofs.Common.{Bor, Option, ◌++◌, subst, ⊎_elim, inl, inr, ◌≡◌, ℕ, suc, ◌+◌, ◌-◌, ◌*◌, ◌<◌, ◌≤◌, true, List, length, take, drop, Some, None, Ok, Err, Result, sym, ap, ◌∙◌, ap₂, add-one, arith}
+use Rattle.std.proofs.lemmas.List.{length-map}
+use Rattle.std.specs.declared.ops.Range.{Range}
+use Rattle.std.specs.Iterator.Adapters.{zip_first, zip_second}
+use Rattle.std.specs.Slice.Iter.{chunks_exact_rest, chunks_exact_size, chunks_exact_steps}
+use Rattle.std.proofs.iter.Yields.{nat_range_steps}
+use Rattle.std.proofs.lemmas.Iterator.{zips}
+use Rattle.orders.proofs.Rows.{row_within}
+use Rattle.std.proofs.lemmas.Bool.{cases_lt}
 use Rattle.std.proofs.lemmas.Bool.Decides.{nat_tests}
 use Rattle.orders.specs.declared.refusal.Refusal.{Refusal}
-use Rattle.orders.specs.Entries.{entry_of, decoded, row_of, kind_row}
-use Rattle.orders.specs.Running.{written_over}
+use Rattle.orders.specs.Entries.{entry_of, row_of, kind_row}
 use Rattle.ranking.specs.declared.ranked.Side.TheVariants.{Buyers, Sellers}
 use Rattle.ranking.specs.declared.ranked.Ranked.{Ranked}
 use Rattle.ranking.specs.Ranks.{own, ranked}
 use Rattle.clearing.specs.declared.outcome.Outcome.{Outcome}
 use Rattle.clearing.specs.Rule.{cents_of, pairs, cleared, trades_in, buyers_pay, sellers_get}
 use Rattle.clearing.specs.Kind.{pairs_in, outcome}
-use Rattle.sheet.specs.Keys.{lists_fit}
+use Rattle.sheet.specs.Standing.{lists_fit}
 use Rattle.sheet.specs.Sheets.{first_ranks, row_fields}
-use Rattle.sheet.specs.Verdicts.{and_then, through, through_kinds, first_unknown}
+use Rattle.sheet.specs.Verdicts.{and_then, through, through_kinds}
 use Rattle.sheet.specs.Writing.{fits}
+use Rattle.sheet.proofs.Counted.{Loop, Taken, Turn, at, ended, taken}
 use Rattle.sheet.proofs.Extents.{numbers_small}
 
 -- a function of what two ranked lists give: the pairs, the outcome and the first ranks
@@ -45,10 +51,6 @@ row_fits codes h =
     few_fit (pairs_in own row) (outcome own row) (length (first_ranks Buyers row)) (length (first_ranks Sellers row))
     (omega (arith, n.pairs)) (omega (arith, n.trades)) n.pay n.get (omega (arith, n.listed))
 
--- the part of a list that was written
-pub written_front : (n : ℕ) (xs old new : List Ranked) → n ≡ length xs → new ≡ written_over xs old → take (n - 0) new ≡ xs
-written_front n xs old new e w = ap (take (n - 0)) w ∙ take_at xs (drop (length xs) old) (n - 0) (omega arith)
-
 -- the next of the kinds
 pub kinds_next : (M : ℕ) (codes sheet : List ℕ) (K k at : ℕ) → k < K →
     through_kinds M codes sheet (K - k) k at
@@ -62,12 +64,6 @@ kinds_next M codes sheet K k at h =
 pub kinds_none : (M : ℕ) (codes sheet : List ℕ) (K k at : ℕ) → K ≤ k → through_kinds M codes sheet (K - k) k at ≡ Ok at
 unfolding through_kinds
 kinds_none M codes sheet K k at h = let n : K - k ≡ 0 = omega arith in ap (λ (i : ℕ). through_kinds M codes sheet i k at) n
-
--- a kind's row among the codes
-pub kind_slice : (codes : List ℕ) (k M a b : ℕ) → a ≡ k → b ≡ M → take ((a * b + b) - a * b) (drop (a * b) codes) ≡ take M (drop (k * M) codes)
-kind_slice codes k M a b e f =
-    ap₂ (λ x y. take ((x * y + y) - x * y) (drop (x * y) codes)) e f
-    ∙ let n : (k * M + M) - k * M ≡ M = omega arith in ap (λ (i : ℕ). take i (drop (k * M) codes)) n
 
 -- what a kind answered
 module _ (M : ℕ) (codes sheet : List ℕ) (K k at : ℕ) (row : List ℕ) (r : Result ℕ Refusal) where
@@ -86,18 +82,59 @@ module _ (M : ℕ) (codes sheet : List ℕ) (K k at : ℕ) (row : List ℕ) (r :
       r ≡ Err why → through_kinds M codes sheet (K - k) k at ≡ Err why
   kind_err s h e is = kind_answer s h e ∙ ap (λ x. and_then x (through_kinds M codes sheet (K - (k + 1)) (k + 1))) is
 
--- the next of the codes
-pub known_next : (codes : List ℕ) (i : ℕ) → i < length codes → is_some (decoded (get_or codes i 0)) ≡ true →
-    first_unknown i (drop i codes) ≡ first_unknown (i + 1) (drop (i + 1) codes)
-unfolding first_unknown
-known_next codes i h t =
-    at_drop_more (first_unknown i) codes i 0 h ∙ cond-true _ _ _ t ∙ ap (λ (n : ℕ). first_unknown n (drop (i + 1) codes)) (sym (add-one i))
+-- THE KINDS, EACH BESIDE ITS ROW, in a loop over both
+module _ (K M : ℕ) (codes sheet : List ℕ) where
+  pub record Upto (s : Loop ℕ) (end : ℕ) : Type 0 where
+    pub turn : Turn K M codes s
+    pub through : through_kinds M codes sheet (K - at s) (at s) end ≡ through_kinds M codes sheet K 0 0
 
-pub unknown_next : (codes : List ℕ) (i : ℕ) → i < length codes → is_some (decoded (get_or codes i 0)) ≡ false →
-    first_unknown i (drop i codes) ≡ Some i
-unfolding first_unknown
-unknown_next codes i h t = at_drop_more (first_unknown i) codes i 0 h ∙ cond-false _ _ _ t
+  pub kinds_begin : (s : Loop ℕ) → zip_first s ≡ record { start = 0; end = K } → chunks_exact_size (zip_second s) ≡ M →
+      chunks_exact_rest (zip_second s) ≡ codes → Upto s 0
+  kinds_begin s range size rest =
+      let first : at s ≡ 0 = ap (λ (x : Range ℕ). x.start) range in
+      let zero : 0 ≡ 0 * M = omega arith in
+      let none : 0 ≡ at s * M = zero ∙ ap (λ (i : ℕ). i * M) (sym first) in
+      record {
+        turn = record {
+          below = omega (arith, first);
+          last = ap (λ (x : Range ℕ). x.end) range;
+          size = size;
+          rest = rest ∙ ap (λ (i : ℕ). drop i codes) none;
+          room = omega (arith, none);
+        };
+        through = ap (λ (i : ℕ). through_kinds M codes sheet (K - i) i 0) first ∙ (let all : K - 0 ≡ K = omega arith in ap (λ (i : ℕ). through_kinds M codes sheet i 0 0) all);
+      }
 
-pub unknown_none : (codes : List ℕ) (i : ℕ) → length codes ≤ i → first_unknown i (drop i codes) ≡ None
-unfolding first_unknown
-unknown_none codes i h = at_drop_all (first_unknown i) codes i h
+  module _ (s t : Loop ℕ) (r : Option (ℕ × Bor (List ℕ))) (end : ℕ) where
+    -- what the kind's row answered
+    module _ (p : ℕ × Bor (List ℕ)) (answer : Result ℕ Refusal) (u : Upto s end) (is : r ≡ Some p) (steps : zips nat_range_steps chunks_exact_steps s r t)
+        (by_row : answer ≡ through sheet p.0 (row_fields (row_of p.1.now)) end) where
+      next : Taken K M codes s t p
+      next = taken K M codes s t r p u.turn is steps
+
+      by_kind : answer ≡ through sheet (at s) (row_fields (row_of p.1.now)) end
+      by_kind = by_row ∙ ap (λ (i : ℕ). through sheet i (row_fields (row_of p.1.now)) end) next.number
+
+      pub next_kind : {more : ℕ} → answer ≡ Ok more → Upto t more
+      next_kind {more} ok =
+          record {
+            turn = next.turn;
+            through =
+                ap (λ (i : ℕ). through_kinds M codes sheet (K - i) i more) next.more
+                ∙ sym (kind_ok M codes sheet K (at s) end p.1.now answer next.part next.below by_kind ok) ∙ u.through;
+          }
+
+      pub refused_kind : {why : Refusal} → answer ≡ Err why → through_kinds M codes sheet K 0 0 ≡ Err why
+      refused_kind err = sym u.through ∙ kind_err M codes sheet K (at s) end p.1.now answer next.part next.below by_kind err
+
+    -- no more kinds
+    pub kinds_over : Upto s end → 1 ≤ M → K * M ≤ length codes → r ≡ None → zips nat_range_steps chunks_exact_steps s r t →
+        through_kinds M codes sheet K 0 0 ≡ Ok end
+    kinds_over u few room is steps =
+        sym u.through ∙ kinds_none M codes sheet K (at s) end
+        (⊎_elim (λ f. omega (arith, f))
+        (λ g. elim (cases_lt (at s) K) [
+          | inr h ↦ h
+          | inl h ↦ absurd (omega (arith, g, row_within (at s) K M (length codes) few h room))
+        ])
+        (ended K M codes s t r u.turn is steps))

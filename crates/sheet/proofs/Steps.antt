@@ -1,13 +1,54 @@
 -- Going through the bytes that should be there.
-use Rattle.std.proofs.Common.{◌≡◌, ℕ, suc, ◌+◌, ◌<◌, ◌≤◌, Bool, true, false, cond, eqb, List, [], ◌∷◌, ◌++◌, length, get_or, drop, Ok, Err, Result, sym, refl, ap, ◌∙◌, inl, inr, add-one, drop-cons}
-use Rattle.std.proofs.lemmas.List.{append_assoc, at_drop_more, at_drop_all, drop_all}
-use Rattle.std.proofs.lemmas.Bool.{cases_lt, cond-true, cond-false, eq-eqb, ne_eqb}
+use Rattle.std.specs.List.{starts_with}
+use Rattle.std.proofs.lemmas.Bool.Decides.{nat_tests}
+use Rattle.std.proofs.Common.{◌≡◌, ℕ, suc, ◌+◌, ◌/◌, ◌%◌, nat_eq, add-zero, arith, ◌&&◌, ap₂, ◌<◌, ◌≤◌, Bool, true, false, cond, eqb, List, [], ◌∷◌, ◌++◌, length, get_or, drop, Ok, Err, Result, sym, refl, ap, ◌∙◌, inl, inr, drop-cons}
+use Rattle.std.proofs.lemmas.List.{append_assoc, at_drop_more, drop_all}
+use Rattle.std.proofs.lemmas.Bool.{cases_lt, cond-true, cond-false}
 use Rattle.orders.specs.declared.refusal.Refusal.{Refusal}
 use Rattle.orders.specs.declared.refusal.Refusal.TheVariants.{Ends}
 use Rattle.ranking.specs.declared.ranked.Ranked.{Ranked}
 use Rattle.sheet.specs.Words.{bytes2, bytes4}
 use Rattle.sheet.specs.Sheets.{row_bytes}
 use Rattle.sheet.specs.Verdicts.{and_then, compared, step}
+
+-- WHAT SHOULD BE THERE IS, or is but for its end, or is not
+
+same_test : (x b : ℕ) → eqb b x ≡ eqb x b
+same_test x b = grind (arith, nat_tests)
+
+under : (t u v : Bool) (r whole early why : Result ℕ Refusal) → r ≡ cond u whole (cond v early why) →
+    cond t r why ≡ cond (t && u) whole (cond (t && v) early why)
+under true u v r whole early why h = h
+under false u v r whole early why h = refl
+
+one_more : (at n : ℕ) → suc at + n ≡ at + suc n
+one_more at n = omega arith
+
+compared_is : (why : Refusal) (bytes there : List ℕ) (at : ℕ) →
+    compared why bytes there at
+    ≡ cond (starts_with nat_eq there bytes) (Ok (at + length bytes)) (cond (starts_with nat_eq bytes there) (Err (Ends (at + length there))) (Err why))
+unfolding compared
+compared_is why [] there at = ap Ok (sym (add-zero at))
+compared_is why (b ∷ bytes) [] at = ap (λ n. Err (Ends n)) (sym (add-zero at))
+compared_is why (b ∷ bytes) (x ∷ there) at =
+    let u = starts_with nat_eq there bytes in
+    let v = starts_with nat_eq bytes there in
+    under (eqb x b) u v _ (Ok (at + suc (length bytes))) (Err (Ends (at + suc (length there)))) (Err why)
+    (compared_is why bytes there (suc at)
+    ∙ ap₂ (λ m n. cond u (Ok m) (cond v (Err (Ends n)) (Err why))) (one_more at (length bytes)) (one_more at (length there)))
+    ∙ ap (λ t. cond (t && u) (Ok (at + suc (length bytes))) (cond (eqb x b && v) (Err (Ends (at + suc (length there)))) (Err why))) (sym (same_test x b))
+
+pub begins : (why : Refusal) (bytes there : List ℕ) (at : ℕ) → starts_with nat_eq there bytes ≡ true →
+    compared why bytes there at ≡ Ok (at + length bytes)
+begins why bytes there at h = compared_is why bytes there at ∙ cond-true _ _ _ h
+
+pub ends_early : (why : Refusal) (bytes there : List ℕ) (at : ℕ) → starts_with nat_eq there bytes ≡ false → starts_with nat_eq bytes there ≡ true →
+    compared why bytes there at ≡ Err (Ends (at + length there))
+ends_early why bytes there at h k = compared_is why bytes there at ∙ cond-false _ _ _ h ∙ cond-true _ _ _ k
+
+pub differs : (why : Refusal) (bytes there : List ℕ) (at : ℕ) → starts_with nat_eq there bytes ≡ false → starts_with nat_eq bytes there ≡ false →
+    compared why bytes there at ≡ Err why
+differs why bytes there at h k = compared_is why bytes there at ∙ cond-false _ _ _ h ∙ cond-false _ _ _ k
 
 -- one byte
 module _ (sheet : List ℕ) (why : Refusal) where
@@ -23,31 +64,6 @@ module _ (sheet : List ℕ) (why : Refusal) where
       step sheet why (b ∷ bytes) at ≡ cond (eqb (get_or sheet at 0) b) (step sheet why bytes (suc at)) (Err why)
   unfolding compared
   step_there b bytes at h = ap (λ there. compared why (b ∷ bytes) there at) (drop-cons sheet at 0 h)
-
-  step_same : (b : ℕ) (bytes : List ℕ) (at : ℕ) → at < length sheet → get_or sheet at 0 ≡ b →
-      step sheet why (b ∷ bytes) at ≡ step sheet why bytes (at + 1)
-  step_same b bytes at h e =
-      step_there b bytes at h ∙ cond-true _ _ _ (eq-eqb (get_or sheet at 0) b e) ∙ ap (step sheet why bytes) (sym (add-one at))
-
-  step_other : (b : ℕ) (bytes : List ℕ) (at : ℕ) → at < length sheet → (get_or sheet at 0 ≡ b → ⊥) →
-      step sheet why (b ∷ bytes) at ≡ Err why
-  step_other b bytes at h d = step_there b bytes at h ∙ cond-false _ _ _ (ne_eqb (get_or sheet at 0) b d)
-
-  -- the same at byte i of what should be there
-  module _ (bytes : List ℕ) (i : ℕ) (at : ℕ) where
-    pub byte_same : i < length bytes → at < length sheet → get_or sheet at 0 ≡ get_or bytes i 0 →
-        step sheet why (drop i bytes) at ≡ step sheet why (drop (i + 1) bytes) (at + 1)
-    byte_same h l e = at_drop_more (λ bs. step sheet why bs at) bytes i 0 h ∙ step_same _ _ at l e
-
-    pub byte_other : i < length bytes → at < length sheet → (get_or sheet at 0 ≡ get_or bytes i 0 → ⊥) →
-        step sheet why (drop i bytes) at ≡ Err why
-    byte_other h l d = at_drop_more (λ bs. step sheet why bs at) bytes i 0 h ∙ step_other _ _ at l d
-
-    pub byte_past : i < length bytes → length sheet ≤ at → step sheet why (drop i bytes) at ≡ Err (Ends at)
-    byte_past h l = at_drop_more (λ bs. step sheet why bs at) bytes i 0 h ∙ step_past _ _ at l
-
-    pub byte_none : length bytes ≤ i → step sheet why (drop i bytes) at ≡ Ok at
-    byte_none h = at_drop_all (λ bs. step sheet why bs at) bytes i h ∙ step_none at
 
   -- one piece after another
   pub step_append : (xs ys : List ℕ) (at : ℕ) →
@@ -73,6 +89,18 @@ module _ (sheet : List ℕ) (why : Refusal) where
 
   pub step_err : {e : Refusal} (xs ys : List ℕ) (at : ℕ) → step sheet why xs at ≡ Err e → step sheet why (xs ++ ys) at ≡ Err e
   step_err xs ys at h = step_append xs ys at ∙ ap (λ r. and_then r (step sheet why ys)) h
+
+  -- a number, by its bytes
+  pub stepped2 : {bytes : List ℕ} {r : Result ℕ Refusal} (n at : ℕ) → bytes ≡ n % 256 ∷ n / 256 % 256 ∷ [] → r ≡ step sheet why bytes at →
+      step sheet why (bytes2 n) at ≡ r
+  unfolding bytes2
+  stepped2 n at e h = ap (λ bs. step sheet why bs at) (sym e) ∙ sym h
+
+  pub stepped4 : {bytes : List ℕ} {r : Result ℕ Refusal} (n at : ℕ) →
+      bytes ≡ n % 256 ∷ n / 256 % 256 ∷ n / 65536 % 256 ∷ n / 16777216 % 256 ∷ [] → r ≡ step sheet why bytes at →
+      step sheet why (bytes4 n) at ≡ r
+  unfolding bytes4
+  stepped4 n at e h = ap (λ bs. step sheet why bs at) (sym e) ∙ sym h
 
   -- a row whose next member is x
   module _ (row : List Ranked) (i : ℕ) (d : Ranked) (at : ℕ) (h : i < length row) where

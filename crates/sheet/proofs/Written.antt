@@ -1,7 +1,7 @@
 -- What is written into lent bytes, piece by piece.
-use Rattle.std.proofs.Common.{◌≡◌, ℕ, ◌+◌, ◌-◌, ◌*◌, ◌≤◌, true, List, [], ◌∷◌, ◌++◌, length, take, drop, sym, refl, ap, ◌∙◌, subst, add-zero, arith}
+use Rattle.std.proofs.Common.{◌≡◌, ℕ, ◌+◌, ◌-◌, ◌*◌, ◌/◌, ◌%◌, ◌≤◌, true, List, [], ◌∷◌, ◌++◌, length, take, drop, sym, refl, ap, ◌∙◌, subst, add-zero, arith}
 use borrow.Rule.Slice.PartMut.{put_mid}
-use Rattle.std.proofs.lemmas.List.{append_assoc, append-nil, length-append, length-take, length-drop, take_at, drop_at, drop-drop, take-append-drop, flat_map_more}
+use Rattle.std.proofs.lemmas.List.{append_assoc, append-nil, length-append, length-take, take_at, drop_at, drop-drop, take-append-drop, flat_map_more}
 use Rattle.std.proofs.lemmas.Bool.Decides.{nat_tests}
 use Rattle.ranking.specs.declared.ranked.Ranked.{Ranked}
 use Rattle.clearing.specs.declared.outcome.Outcome.{Outcome}
@@ -17,17 +17,6 @@ written_part at n old part bytes e l =
     ap (λ p. take at old ++ (p ++ drop ((at + n) - at) (drop at old))) e
     ∙ ap (λ d. take at old ++ (bytes ++ d)) (drop-drop ((at + n) - at) at old)
     ∙ ap (λ (k : ℕ). take at old ++ (bytes ++ drop k old)) (omega arith)
-
-pub length_written : (at : ℕ) (bytes old : List ℕ) → at + length bytes ≤ length old → length (written_at at bytes old) ≡ length old
-unfolding written_at
-length_written at bytes old h =
-    omega (
-      arith,
-      length-append (take at old) (bytes ++ drop (at + length bytes) old),
-      length-append bytes (drop (at + length bytes) old),
-      length-take at old,
-      length-drop (at + length bytes) old,
-    )
 
 -- nothing is written
 pub written_none : (at : ℕ) (old : List ℕ) → written_at at [] old ≡ old
@@ -84,11 +73,18 @@ pub length_bytes4 : (n : ℕ) → length (bytes4 n) ≡ 4
 unfolding bytes4
 length_bytes4 n = refl
 
-pub wrote2 : {at end : ℕ} {old new : List ℕ} (n : ℕ) → end ≡ at + 2 → new ≡ written_at at (bytes2 n) old → Wrote at (bytes2 n) old end new
-wrote2 n e w = record { ends = omega (arith, length_bytes2 n); leaves = w }
+-- a number was written, by its bytes
+pub wrote2 : {at end : ℕ} {old new bytes : List ℕ} (n : ℕ) → bytes ≡ n % 256 ∷ n / 256 % 256 ∷ [] → end ≡ at + length bytes →
+    new ≡ written_at at bytes old → Wrote at (bytes2 n) old end new
+unfolding bytes2
+wrote2 {at} {end} {old} {new} {bytes} n e ends leaves =
+    record { ends = ends ∙ ap (λ bs. at + length bs) e; leaves = leaves ∙ ap (λ bs. written_at at bs old) e }
 
-pub wrote4 : {at end : ℕ} {old new : List ℕ} (n : ℕ) → end ≡ at + 4 → new ≡ written_at at (bytes4 n) old → Wrote at (bytes4 n) old end new
-wrote4 n e w = record { ends = omega (arith, length_bytes4 n); leaves = w }
+pub wrote4 : {at end : ℕ} {old new bytes : List ℕ} (n : ℕ) → bytes ≡ n % 256 ∷ n / 256 % 256 ∷ n / 65536 % 256 ∷ n / 16777216 % 256 ∷ [] →
+    end ≡ at + length bytes → new ≡ written_at at bytes old → Wrote at (bytes4 n) old end new
+unfolding bytes4
+wrote4 {at} {end} {old} {new} {bytes} n e ends leaves =
+    record { ends = ends ∙ ap (λ bs. at + length bs) e; leaves = leaves ∙ ap (λ bs. written_at at bs old) e }
 
 pub length_listed : (x : Ranked) → length (listed_bytes x) ≡ 6
 length_listed x =
@@ -159,14 +155,10 @@ pub room_there : (size at p : ℕ) (o : Outcome) (buyers sellers : ℕ) → writ
 room_there size at p o buyers sellers h = grind (arith, nat_tests)
 
 -- the head of an outcome's numbers
-pub wrote_head : {at end : ℕ} {old new : List ℕ} (p : ℕ) (o : Outcome) (trades pay get : ℕ) → trades ≡ trades_in o → pay ≡ buyers_pay o →
-    get ≡ sellers_get o → end ≡ at + 12 → new ≡ written_at at (head_bytes p trades pay get) old →
+pub wrote_head : {at end : ℕ} {old new : List ℕ} (p : ℕ) (o : Outcome) → end ≡ at + 12 →
+    new ≡ written_at at (head_bytes p (trades_in o) (buyers_pay o) (sellers_get o)) old →
     Wrote at (head_bytes p (trades_in o) (buyers_pay o) (sellers_get o)) old end new
-wrote_head {at = at} {old = old} p o trades pay get t b s e w =
-    record {
-      ends = omega (arith, length_head p (trades_in o) (buyers_pay o) (sellers_get o));
-      leaves = w ∙ ap (λ bytes. written_at at bytes old) (rw (t, b, s));
-    }
+wrote_head p o e w = record { ends = omega (arith, length_head p (trades_in o) (buyers_pay o) (sellers_get o)); leaves = w }
 
 pub wrote_counted : {at end : ℕ} {old new : List ℕ} (xs : List Ranked) → end ≡ at + (2 + 6 * length xs) →
     new ≡ written_at at (counted_bytes xs) old → Wrote at (counted_bytes xs) old end new

@@ -2,7 +2,7 @@ pub mod Words
 pub mod Sheets
 pub mod Writing
 pub mod Sections
-pub mod Keys
+pub mod Standing
 pub mod Verdicts
 pub mod EntryFiles
 pub mod Statements

@@ -1,86 +1,76 @@
-// Comparing what is on a sheet with what should be there, from a place on. Each answers where it ends.
+// Comparing what is on a sheet with what should be there.
 ghost use Rattle.std.specs.Prelude.{◌≡◌, true, length};
-ghost use Rattle.sheet.specs.Words.{bytes2, bytes4};
+ghost use Rattle.orders.specs.declared.refusal.Refusal.TheVariants.{Differs};
 ghost use Rattle.sheet.specs.Sheets.{row_bytes, kind_fields};
 ghost use Rattle.sheet.specs.Verdicts.{step, through};
 ghost use Rattle.sheet.specs.Writing.{fits};
 
-use clearing::Outcome;
+use crate::listing::Listing;
 use orders::{Field, HalfCents, Refusal};
-use ranking::Ranked;
+use ranking::{Ranked, Side};
 
-// The first byte that differs decides: it is refused for the reason given.
-fn expect(sheet: &[u8], at: usize, bytes: &[u8], why: Refusal) -> Result<usize, Refusal>
-    ensures { result ≡ step sheet.now why bytes.now at }
-{
-    let mut end = at;
-    for byte in bytes {
-        if end >= sheet.len() {
-            return Err(Refusal::Ends(end));
+// A kind's part of a sheet.
+#[derive(Clone, Copy)]
+pub(crate) struct Reading<'a> {
+    pub(crate) sheet: &'a [u8],
+    pub(crate) kind: u8,
+}
+
+// Each of these compares from a place on, and answers where what it compared ends. The first byte that differs decides.
+impl Reading<'_> {
+    fn expect(self, at: usize, field: Field, bytes: &[u8]) -> Result<usize, Refusal>
+        ensures { result ≡ step self.entry.sheet.now (Differs self.entry.kind field) bytes.now at }
+    {
+        let there = self.sheet.get(at..).unwrap_or(&[]);
+        if there.starts_with(bytes) {
+            return Ok(at + bytes.len());
         }
-        if sheet[end] != *byte {
-            return Err(why);
+        if bytes.starts_with(there) {
+            return Err(Refusal::Ends(at + there.len()));
         }
-        end += 1;
+        Err(Refusal::Differs {
+            kind: self.kind,
+            field,
+        })
     }
-    Ok(end)
-}
 
-fn expect_u16(sheet: &[u8], at: usize, number: u16, why: Refusal) -> Result<usize, Refusal>
-    ensures { result ≡ step sheet.now why (bytes2 number) at }
-{
-    expect(sheet, at, &number.to_le_bytes(), why)
-}
-
-fn expect_u32(sheet: &[u8], at: usize, number: u32, why: Refusal) -> Result<usize, Refusal>
-    ensures { result ≡ step sheet.now why (bytes4 number) at }
-{
-    expect(sheet, at, &number.to_le_bytes(), why)
-}
-
-fn expect_row(sheet: &[u8], at: usize, row: &[Ranked], why: Refusal) -> Result<usize, Refusal>
-    ensures { result ≡ step sheet.now why (row_bytes row.now) at }
-{
-    let mut end = at;
-    for one in row {
-        end = expect_u16(sheet, end, one.member, why)?;
-        end = expect_u32(sheet, end, one.cents.0, why)?;
+    fn expect_row(self, at: usize, field: Field, row: &[Ranked]) -> Result<usize, Refusal>
+        ensures { result ≡ step self.entry.sheet.now (Differs self.entry.kind field) (row_bytes row.now) at }
+    {
+        let mut end = at;
+        for one in row {
+            end = self.expect(end, field, &one.member.to_le_bytes())?;
+            end = self.expect(end, field, &one.cents.0.to_le_bytes())?;
+        }
+        Ok(end)
     }
-    Ok(end)
-}
 
-// Compares a kind, field by field.
-pub(crate) fn expect_kind(
-    sheet: &[u8],
-    at: usize,
-    kind: u8,
-    pairs: usize,
-    outcome: Outcome,
-    buyers: &[Ranked],
-    sellers: &[Ranked],
-) -> Result<usize, Refusal>
-    requires { fits pairs outcome (length buyers.now) (length sellers.now) ≡ true }
-    ensures { result ≡ through sheet.now kind (kind_fields pairs outcome buyers.now sellers.now) at }
-{
-    let HalfCents(pay) = outcome.buyers_price();
-    let HalfCents(get) = outcome.sellers_price();
-    let field = Field::Pairs;
-    let at = expect_u16(sheet, at, pairs as u16, Refusal::Differs { kind, field })?;
-    let field = Field::Trades;
-    let trades = outcome.trades() as u16;
-    let at = expect_u16(sheet, at, trades, Refusal::Differs { kind, field })?;
-    let field = Field::BuyersPrice;
-    let at = expect_u32(sheet, at, pay as u32, Refusal::Differs { kind, field })?;
-    let field = Field::SellersPrice;
-    let at = expect_u32(sheet, at, get as u32, Refusal::Differs { kind, field })?;
-    let field = Field::BuyersCount;
-    let count = buyers.len() as u16;
-    let at = expect_u16(sheet, at, count, Refusal::Differs { kind, field })?;
-    let field = Field::BuyersRow;
-    let at = expect_row(sheet, at, buyers, Refusal::Differs { kind, field })?;
-    let field = Field::SellersCount;
-    let count = sellers.len() as u16;
-    let at = expect_u16(sheet, at, count, Refusal::Differs { kind, field })?;
-    let field = Field::SellersRow;
-    expect_row(sheet, at, sellers, Refusal::Differs { kind, field })
+    // Field by field.
+    #[tactic(auto, unfolding(crate::specs::Words::bytes2, crate::specs::Words::bytes4))]
+    pub(crate) fn expect_kind(self, at: usize, listing: Listing<'_>) -> Result<usize, Refusal>
+        requires { fits listing.pairs listing.outcome (length listing.buyers.now) (length listing.sellers.now) ≡ true }
+        ensures { let l = listing.entry in result ≡ through self.entry.sheet.now self.entry.kind (kind_fields l.pairs l.outcome l.buyers.now l.sellers.now) at }
+    {
+        let Listing {
+            pairs,
+            outcome,
+            buyers,
+            sellers,
+        } = listing;
+        let trades = outcome.trades();
+        let HalfCents(pay) = outcome.price(Side::Buyers);
+        let HalfCents(get) = outcome.price(Side::Sellers);
+        let at = self.expect(at, Field::Pairs, &(pairs as u16).to_le_bytes())?;
+        let at = self.expect(at, Field::Trades, &(trades as u16).to_le_bytes())?;
+        let at = self.expect(at, Field::BuyersPrice, &(pay as u32).to_le_bytes())?;
+        let at = self.expect(at, Field::SellersPrice, &(get as u32).to_le_bytes())?;
+        let at = self.expect(at, Field::BuyersCount, &(buyers.len() as u16).to_le_bytes())?;
+        let at = self.expect_row(at, Field::BuyersRow, buyers)?;
+        let at = self.expect(
+            at,
+            Field::SellersCount,
+            &(sellers.len() as u16).to_le_bytes(),
+        )?;
+        self.expect_row(at, Field::SellersRow, sellers)
+    }
 }

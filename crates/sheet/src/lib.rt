@@ -4,14 +4,14 @@
 mod checking;
 mod entries;
 mod expecting;
-mod limits;
+mod listing;
 pub mod promises;
 mod ranks;
 mod section;
-mod words;
 mod writing;
 
 pub use checking::check;
 pub use entries::{EntriesFile, check_file, entries_file};
+pub use listing::Listing;
 pub use section::{Row, Section};
-pub use writing::write_kind;
+pub use writing::{put, write_kind};

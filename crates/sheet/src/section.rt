@@ -3,8 +3,7 @@ ghost use Rattle.std.specs.Prelude.{◌≡◌, ◌+◌, ◌*◌, ◌≤◌, leng
 ghost use Rattle.orders.specs.Words.{word2, word4};
 ghost use Rattle.sheet.specs.Sections.{has_row, row_in, past_row, has_kind, buyers_in, sellers_in, past_kind, how_many_listed, listed};
 
-use crate::words::{word_u16, word_u32};
-use orders::{Cents, HalfCents};
+use orders::{Cents, HalfCents, word_u16, word_u32};
 use ranking::Ranked;
 
 // The bytes of a member with its number.
@@ -27,25 +26,14 @@ pub struct Row<'a> {
     pub bytes: &'a [u8],
 }
 
-// The first `count` bytes and the others, where there are so many.
-fn split(bytes: &[u8], count: usize) -> Option<(&[u8], &[u8])>
-    ensures there { is_some result ≡ nat_le count (length bytes.now) }
-    ensures parts { IfSome result (λ x. (x.0.now ≡ take count bytes.now) × (x.1.now ≡ drop count bytes.now)) }
-{
-    if bytes.len() < count {
-        return None;
-    }
-    Some(bytes.split_at(count))
-}
-
 impl Row<'_> {
     // The row at the beginning of the bytes, after its count, and what comes after it.
     fn read(bytes: &[u8]) -> Option<(Row<'_>, &[u8])>
         ensures there { is_some result ≡ has_row bytes.now }
         ensures parts { IfSome result (λ x. (x.0.bytes.now ≡ row_in bytes.now) × (x.1.now ≡ past_row bytes.now)) }
     {
-        let (count, rest) = split(bytes, 2)?;
-        let (row, rest) = split(rest, LISTED * usize::from(word_u16(count, 0)))?;
+        let (count, rest) = bytes.split_at_checked(2)?;
+        let (row, rest) = rest.split_at_checked(LISTED * usize::from(word_u16(count, 0)))?;
         Some((Row { bytes: row }, rest))
     }
 
@@ -82,7 +70,7 @@ impl Section<'_> {
         ensures sellers { IfSome result (λ x. x.0.sellers.bytes.now ≡ sellers_in bytes.now) }
         ensures rest { IfSome result (λ x. x.1.now ≡ past_kind bytes.now) }
     {
-        let (_, rest) = split(bytes, 12)?;
+        let (_, rest) = bytes.split_at_checked(12)?;
         let (buyers, rest) = Row::read(rest)?;
         let (sellers, rest) = Row::read(rest)?;
         let section = Section {

@@ -11,4 +11,4 @@ returns c =
     (wrote (trade_bytes l.price) c.trade_bytes.ensures c.put-end-2.ensures.end c.put-end-2.ensures.bytes)
     (wrote (pair_bytes l.last) c.pair_bytes.ensures c.put-end-3.ensures.end c.put-end-3.ensures.bytes)
     (wrote (pair_bytes l.next) c.pair_bytes-2.ensures c.put-end-4.ensures.end c.put-end-4.ensures.bytes)
-    (wrote (tie_byte l.tie ∷ []) (ap (λ n. n ∷ []) c.tie_byte.ensures) c.put-end-5.ensures.end c.put-end-5.ensures.bytes)
+    (wrote (tie_byte l.tie ∷ []) (ap (λ n. n ∷ []) c.from.ensures) c.put-end-5.ensures.end c.put-end-5.ensures.bytes)

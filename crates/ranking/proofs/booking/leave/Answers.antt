@@ -12,11 +12,8 @@ size_of-before-requires c =
 pub remove-rest-requires : goal.remove-rest-requires
 remove-rest-requires c =
     record {
-      tree = record {
-        tree = side_tree c.args.side c.args.nodes.now c.args.roots;
-        stands = stands_at c.requires.sound c.args.side refl c.of-root.ensures;
-      };
-      keys = c.requires.sound.wide;
+      tree = side_tree c.args.side c.args.nodes.now c.args.roots;
+      stands = stands_at c.requires.sound c.args.side refl c.of-root.ensures;
     }
 
 pub size_of-requires : goal.size_of-requires
@@ -40,4 +37,4 @@ returns c =
     leave_one c.requires.sound c.args.side c.args.member c.remove-rest.auto.nodes f
     (c.size_of-before.ensures ∙ size_rep c.args.nodes.now c.of-root.result _ t.rep)
     (c.size_of.ensures ∙ size_rep c.remove-rest.new.nodes c.remove-rest.result _ f.rep)
-    c.with-2.ensures c.if-size_of-before.false (record { left = 65535; right = 65535; count = 0 }) refl
+    c.with-2.ensures c.if-size_of-before.false (record { left = 65535; right = 65535; count = 0; cents = record { 0 = 0 } }) refl

@@ -10,7 +10,7 @@ abbrev pub invariant-loop-slot : goal.invariant-loop-slot
 invariant-loop-slot l =
     (l.slot < 65536) × (l.count < 65536)
     × ((t : Tree) → Stands l.nodes l.root t → (u : Tree) × Stands l.nodes l.slot u
-    × (l.count + passed (follows l.side l.keys l.limit) u ≡ passed (follows l.side l.keys l.limit) t))
+    × (l.count + passed (follows l.side l.nodes l.limit) u ≡ passed (follows l.side l.nodes l.limit) t))
 
 abbrev pub decreases-loop-slot : goal.decreases-loop-slot
 decreases-loop-slot l = size_at l.nodes l.slot

@@ -29,7 +29,7 @@ overflow_add-count-2 c =
 pub returns : goal.returns
 returns c =
     λ t u p. join_became c.args.hand c.args.nodes.now
-    (set c.args.nodes.now c.args.root c.of.result)
+    (set c.args.nodes.now c.args.root c.over.result)
     c.args.root c.args.near c.args.far (c.size_of.result + c.size_of-2.result + 1) t u
-    (ap (λ n. set c.args.nodes.now c.args.root n) c.of.ensures)
+    (ap (λ n. set c.args.nodes.now c.args.root n) c.over.ensures)
     (omega (arith, c.size_of.ensures, c.size_of-2.ensures)) p

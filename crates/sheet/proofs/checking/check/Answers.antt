@@ -3,16 +3,20 @@ use Rattle.sheet.specs.Statements.{AcceptsExactly, NamedRight, TellsRule}
 use Rattle.sheet.proofs.Acceptance.{accepts_exactly, named_right, tells_rule}
 use Rattle.sheet.proofs.checking.check.Goals as goal
 
-pub returns : goal.returns
-returns c =
-    let K = c.args.kinds in
-    let M = c.args.members in
-    let codes = c.args.codes.now in
-    let sheet = c.args.sheet.now in
-    let e = sym c.answer.ensures in
-    record {
-      answer = c.answer.ensures;
-      accepts = subst (AcceptsExactly K M codes sheet) e (accepts_exactly K M codes sheet);
-      named = subst (NamedRight K M codes sheet) e (named_right K M codes sheet);
-      tells = subst (TellsRule K M codes sheet) e (tells_rule K M codes sheet);
-    }
+pub returns-clause-accepts : goal.returns-clause-accepts
+returns-clause-accepts c =
+    let e = c.args.extent in
+    subst (AcceptsExactly e.kinds e.members c.args.codes.now c.args.sheet.now) (sym c.answer.ensures)
+    (accepts_exactly e.kinds e.members c.args.codes.now c.args.sheet.now)
+
+pub returns-clause-named : goal.returns-clause-named
+returns-clause-named c =
+    let e = c.args.extent in
+    subst (NamedRight e.kinds e.members c.args.codes.now c.args.sheet.now) (sym c.answer.ensures)
+    (named_right e.kinds e.members c.args.codes.now c.args.sheet.now)
+
+pub returns-clause-tells : goal.returns-clause-tells
+returns-clause-tells c =
+    let e = c.args.extent in
+    subst (TellsRule e.kinds e.members c.args.codes.now c.args.sheet.now) (sym c.answer.ensures)
+    (tells_rule e.kinds e.members c.args.codes.now c.args.sheet.now)

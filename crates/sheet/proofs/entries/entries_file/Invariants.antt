@@ -3,4 +3,4 @@ use Rattle.sheet.specs.EntryFiles.{file_of}
 use Rattle.sheet.proofs.entries.entries_file.Given as goal
 
 abbrev pub invariant-loop-code : goal.invariant-loop-code
-invariant-loop-code l = vec_items l.bytes ≡ file_of l.kinds l.members (take l.code-index l.codes)
+invariant-loop-code l = vec_items l.bytes ≡ file_of l.fn.extent.kinds l.fn.extent.members (take l.code-index l.codes)

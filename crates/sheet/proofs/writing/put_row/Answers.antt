@@ -1,5 +1,5 @@
-use Rattle.std.proofs.Common.{◌≡◌, ℕ, ◌+◌, ◌*◌, ◌<◌, ◌≤◌, List, length, get_or, take, sym, refl, ap, ◌∙◌, arith}
-use Rattle.std.proofs.lemmas.List.{take_more, take_all, length-take}
+use Rattle.std.proofs.Common.{◌≡◌, ℕ, ◌+◌, ◌*◌, ◌<◌, ◌≤◌, List, length, get_or, take, sym, refl, arith}
+use Rattle.std.proofs.lemmas.List.{take_more, length-take}
 use Rattle.ranking.specs.declared.ranked.Ranked.{Ranked}
 use Rattle.sheet.specs.Words.{bytes2, bytes4}
 use Rattle.sheet.specs.Sheets.{row_bytes}
@@ -25,15 +25,10 @@ more {at = at} {e₀ = e₀} {old = old} {s₀ = s₀} row i d h room l e s a b 
 
 pub loop-one-preserved : goal.loop-one-preserved
 loop-one-preserved c =
-    let a = wrote2 _ c.put_u16-end.ensures.end c.put_u16-end.ensures.bytes in
-    let b = wrote4 _ c.put_u32-end.ensures.end c.put_u32-end.ensures.bytes in
-    let w = more c.args.row.now c.loop-one.one-index _ (omega arith) c.requires c.loop-one.invariant.1 c.loop-one.invariant.0 c.loop-one.invariant.2 a b in
-    (omega (arith, c.put_u16-end.ensures.end, c.put_u32-end.ensures.end), omega arith, w.leaves)
-
-pub returns : goal.returns
-returns c =
-    let same : c.loop-one.one-index ≡ length c.args.row.now = omega arith in
-    record {
-      end = omega arith;
-      bytes = c.loop-one.invariant.2 ∙ ap (λ xs. written_at c.args.at (row_bytes xs) c.args.sheet.now) (take_all _ c.args.row.now (omega arith));
-    }
+    let a = wrote2 _ c.to_le_bytes.ensures c.put-end.ensures.end c.put-end.ensures.bytes in
+    let b = wrote4 _ c.to_le_bytes-in-loop-one.ensures c.put-end-in-loop-one.ensures.end c.put-end-in-loop-one.ensures.bytes in
+    let w = more c.args.row.now c.loop-one.one-index _ (omega arith) c.requires c.loop-one.invariant.1 c.loop-one.invariant.0 c.loop-one.invariant.2 a b in (
+      omega (arith, w.ends, length_row (take (c.loop-one.one-index + 1) c.args.row.now), length-take (c.loop-one.one-index + 1) c.args.row.now),
+      omega arith,
+      w.leaves,
+    )

@@ -6,19 +6,17 @@ use Rattle.sheet.proofs.writing.write_kind.Goals as goal
 
 pub returns : goal.returns
 returns c =
-    let o = c.args.outcome in
-    let buyers = c.args.buyers.now in
-    let sellers = c.args.sellers.now in
+    let l = c.args.listing in
+    let buyers = l.buyers.now in
+    let sellers = l.sellers.now in
     let old = c.args.sheet.now in
-    let test : writable (length old) c.args.at c.args.pairs o (length buyers) (length sellers) ≡ true =
+    let test : writable (length old) c.args.at l.pairs l.outcome (length buyers) (length sellers) ≡ true =
     sym c.is_writable.ensures ∙ c.if-not-is_writable.false in
     let room : c.args.at + kind_length (length buyers) (length sellers) ≤ length old =
-    room_there (length old) c.args.at c.args.pairs o (length buyers) (length sellers) test in
-    let head =
-    wrote_head c.args.pairs o _ _ _ c.trades-trades.ensures c.buyers_price-pay.ensures c.sellers_price-get.ensures
-    c.put_head-end.ensures.end c.put_head-end.ensures.bytes in
+    room_there (length old) c.args.at l.pairs l.outcome (length buyers) (length sellers) test in
     let w =
-    wrote_kind c.args.pairs o buyers sellers head
+    wrote_kind l.pairs l.outcome buyers sellers
+    (wrote_head l.pairs l.outcome c.put_head-end.ensures.end c.put_head-end.ensures.bytes)
     (wrote_counted buyers c.put_listed-end.ensures.end c.put_listed-end.ensures.bytes)
     (wrote_counted sellers c.put_listed.ensures.end c.put_listed.ensures.bytes) (omega arith)
     (omega (arith, c.put_head-end.ensures.end)) in

@@ -1,4 +1,4 @@
-use Rattle.std.proofs.Common.{◌≡◌, ◌-◌, ◌≤◌, List, length, take, drop, unwrap_or, ap, ◌∙◌, ap₂, arith}
+use Rattle.std.proofs.Common.{◌≡◌, ◌≤◌, List, length, take, unwrap_or, ap, ◌∙◌, ap₂, arith}
 use Rattle.orders.specs.declared.entry.Entry.{Entry}
 use Rattle.orders.specs.Entries.{kind_row}
 use Rattle.ranking.specs.declared.ranked.Side.TheVariants.{Buyers, Sellers}
@@ -23,8 +23,8 @@ returns c =
           let rs : length row ≤ length c.args.sellers.now = omega (arith, few, room) in
           let w =
           kind_written K M codes c.args.kind c.args.at c.pairs-pairs.result c.clear-outcome.result
-          (take (c.first_ranks-buying.result - 0) (drop 0 c.first_ranks-buying.new.list))
-          (take (c.first_ranks-selling.result - 0) (drop 0 c.first_ranks-selling.new.list)) old c.args.sheet.now c.write_kind.new.sheet
+          (take c.first_ranks-buying.result c.first_ranks-buying.new.list)
+          (take c.first_ranks-selling.result c.first_ranks-selling.new.list) old c.args.sheet.now c.write_kind.new.sheet
           c.write_kind.result lm lk long same on.ends on.bytes (of_pairs row l) (of_row row l rb rs).by_rule
           (buying row l rb).part (selling row l rs).part c.write_kind.ensures.end c.write_kind.ensures.bytes in
           record { ends = c.unwrap_or-end.ensures ∙ ap (λ r. unwrap_or r c.args.at) w.0; bytes = w.1 };

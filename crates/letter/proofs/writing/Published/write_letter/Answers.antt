@@ -9,6 +9,6 @@ returns c =
       answer = w.answer;
       letter = w.letter;
       evening =
-          of_evening p.kinds p.members p.entries.now p.sheet.now c.args.member c.write_told.result
+          of_evening p.extent.kinds p.extent.members p.entries.now p.sheet.now c.args.member c.write_told.result
           c.args.letter.now c.write_told.new.letter w.answer w.letter;
     }

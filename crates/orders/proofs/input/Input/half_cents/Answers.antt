@@ -1,12 +1,19 @@
-use Rattle.std.proofs.Common.{◌*◌, [], ◌∷◌, ◌++◌, sym, ap, ◌∙◌, add-one}
-use Rattle.std.proofs.lemmas.Slice.{pushed}
+use Rattle.std.proofs.Common.{◌≡◌, ℕ, ◌*◌, ◌/◌, length, map, refl, ◌∙◌, rules, tests}
+use Rattle.std.specs.Simd.{first_chunks}
+use Rattle.std.proofs.lemmas.Iterator.{YieldsList-from_slice, YieldsList-from_map, items_from_collect}
+use Rattle.std.proofs.lemmas.Iterator.Consumers.{YieldsList-at}
+use Rattle.std.proofs.lemmas.Result.{IfOk-weaker}
 use Rattle.orders.specs.Inputs.{half_cents}
+use Rattle.orders.proofs.Chunks.{word_of, made_of_words}
 use Rattle.orders.proofs.input.Input.half_cents.Goals as goal
 
-pub loop-i-preserved : goal.loop-i-preserved
-loop-i-preserved c =
-    let x = 2 * c.from.result in
+pub returns : goal.returns
+returns c =
     let bytes = c.args.self.now.accounts.now in
-    pushed (x ∷ []) c.loop-i.invariant c.in_ok-push.was c.push.ensures.items
-    ∙ ap (λ v. half_cents bytes c.loop-i.i ++ 2 * v ∷ []) (c.from.ensures ∙ c.word.ensures)
-    ∙ sym (ap (half_cents bytes) (add-one c.loop-i.i))
+    let chunks = first_chunks 4 (length bytes / 4) bytes in
+    let all : map (λ chunk. 2 * word_of chunk) chunks ≡ half_cents bytes (length bytes / 4) =
+    made_of_words (λ n. 2 * n) bytes (half_cents bytes) (λ _. refl) refl (length bytes / 4) in
+    IfOk-weaker c.collect.result _ _ (λ v h. h ∙ all)
+    (items_from_collect c.collect.result c.collect.ensures.ran
+    (YieldsList-from_map _ (λ chunk. 2 * word_of chunk) (YieldsList-at c.map.ensures.source (YieldsList-from_slice chunks (c.iter.ensures.rest ∙ c.as_chunks.ensures.front)))
+    c.map.ensures.closure (λ x r q k. search (rules, tests))))

@@ -1,22 +1,18 @@
-use Rattle.std.proofs.Common.{vec_items, Option, sym, refl, ◌∙◌, subst, arith}
-use Rattle.ranking.specs.declared.book.Book.{Book}
-use Rattle.ranking.specs.Indexes.{book_of}
-use Rattle.ranking.proofs.AllKinds.{book_there, book_past, Tells}
+use Rattle.std.proofs.Common.{Option, refl, subst, arith}
+use Rattle.ranking.proofs.AllKinds.{Tells}
 use Rattle.ranking.proofs.index.Index.len.Goals as goal
 
-pub returns-then-slot-len : goal.returns-then-slot-len
-unfolding book_of
-returns-then-slot-len c =
-    let e = book_past (vec_items c.args.self.now.books) c.len.result c.args.kind
-    (c.len.ensures ∙ c.args.self.now.books.ok.0) c.if-slot-len.true in
-    let t = subst (λ (o : Option Book). Tells c.args.side 0 o) (sym e) (refl, tt, omega arith) in
-    record { count = t.0; ordered = t.1; shallow = t.2 }
+pub returns-in-Some : goal.returns-in-Some
+returns-in-Some g c =
+    let b = g.B.OrderBook in
+    let e = c.len.ensures in
+    let t = subst (λ (o : Option g.row.B.Denot). Tells b.listed b.depth b.shape c.args.side c.len.result o)
+    c.in-Some.ensures (e.count, e.ordered, e.shallow, e.shaped) in
+    record { count = t.0; ordered = t.1; shallow = t.2; shaped = t.3 }
 
-pub returns : goal.returns
-unfolding book_of
-returns c =
-    let e = book_there (vec_items c.args.self.now.books) c.len.result c.args.kind c.index.result.now
-    (c.len.ensures ∙ c.args.self.now.books.ok.0) c.if-slot-len.false c.index.ensures in
-    let t = subst (λ (o : Option Book). Tells c.args.side c.len-2.result o) (sym e)
-    (c.len-2.ensures.count, c.len-2.ensures.ordered, c.len-2.ensures.shallow) in
-    record { count = t.0; ordered = t.1; shallow = t.2 }
+pub returns-in-None : goal.returns-in-None
+returns-in-None g c =
+    let b = g.B.OrderBook in
+    let t = subst (λ (o : Option g.row.B.Denot). Tells b.listed b.depth b.shape c.args.side 0 o)
+    c.in-None.ensures (refl, tt, omega arith, tt) in
+    record { count = t.0; ordered = t.1; shallow = t.2; shaped = t.3 }

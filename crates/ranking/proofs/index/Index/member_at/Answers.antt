@@ -1,19 +1,11 @@
-use Rattle.std.proofs.Common.{vec_items, sym, ap, ◌∙◌}
+use Rattle.std.proofs.Common.{ap, ◌∙◌}
 use Rattle.std.specs.List.{slice_get}
-use Rattle.ranking.specs.Indexes.{book_of, book_list}
-use Rattle.ranking.proofs.AllKinds.{book_there, book_past}
+use Rattle.ranking.specs.Kinds.{book_list}
 use Rattle.ranking.proofs.index.Index.member_at.Goals as goal
 
-pub returns-then-slot-len : goal.returns-then-slot-len
-unfolding book_of
-returns-then-slot-len c =
-    let e = book_past (vec_items c.args.self.now.books) c.len.result c.args.kind
-    (c.len.ensures ∙ c.args.self.now.books.ok.0) c.if-slot-len.true in
-    ap (λ o. slice_get (book_list c.args.side o) c.args.rank) (sym e)
+pub returns-in_err-book : goal.returns-in_err-book
+returns-in_err-book g c = c.from_residual.ensures ∙ ap (λ o. slice_get (book_list g.B.OrderBook.listed c.args.side o) c.args.rank) c.in_err-book.ensures
 
 pub returns : goal.returns
-unfolding book_of
-returns c =
-    let e = book_there (vec_items c.args.self.now.books) c.len.result c.args.kind c.index.result.now
-    (c.len.ensures ∙ c.args.self.now.books.ok.0) c.if-slot-len.false c.index.ensures in
-    c.member_at.ensures ∙ ap (λ o. slice_get (book_list c.args.side o) c.args.rank) (sym e)
+returns g c =
+    c.member_at.ensures ∙ ap (λ o. slice_get (book_list g.B.OrderBook.listed c.args.side o) c.args.rank) c.in_ok-book.ensures

@@ -1,7 +1,0 @@
-use Rattle.std.proofs.Common.{rules}
-use Rattle.letter.specs.Words.{number_at}
-use Rattle.letter.proofs.reading.number.Goals as goal
-
-pub returns : goal.returns
-unfolding number_at
-returns c = search rules
