@@ -3,7 +3,9 @@
 // Refusals that no input of the program brings about: lent memory that is too short, and a closed evening.
 #[cfg(test)]
 mod tests {
-    use orders::{Books, Closed, Extent, HalfCents, Open, Part, Refusal};
+    use orders::{
+        Books, Closed, Entry, Extent, HalfCents, Input, Open, Part, Refusal, UnknownCode,
+    };
     use std::alloc::AllocError;
     use std::process::Abort;
     use std::test::Fail;
@@ -127,6 +129,26 @@ mod tests {
         ] {
             assert_eq!(rt; format!(in alloc; "{refusal}")?.as_str(), text);
         }
+        Ok(())
+    }
+
+    #[test]
+    fn unknown_codes_are_printed(rt: HostRuntime) -> Result<(), Fail> {
+        assert_eq!(rt; Entry::try_from(0x100_0000), Err(UnknownCode(0x100_0000)));
+        let text = format!(in rt.alloc(); "{}", UnknownCode(1))?;
+        assert_eq!(rt; text.as_str(), "no entry has the number 1");
+        Ok(())
+    }
+
+    #[test]
+    fn accounts_are_read(rt: HostRuntime) -> Result<(), Fail> {
+        let bytes = [
+            1, 2, 0, 0, 0, 0, 0, 0, 0, 0, 0, 1, 0, 0, 0, 2, 1, 0, 0, 3, 4,
+        ];
+        let input = Input::read(&bytes);
+        let accounts = input.half_cents(rt.alloc())?;
+        assert!(rt; accounts.as_slice() == [2u64, 516].as_slice());
+        assert!(rt; input.berths == [3u8, 4].as_slice());
         Ok(())
     }
 
