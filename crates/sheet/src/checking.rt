@@ -8,7 +8,7 @@ ghost use Rattle.sheet.specs.Verdicts.{through, verdict, first_unknown, check_an
 
 use crate::expecting::Reading;
 use crate::listing::Listing;
-use crate::ranks::ranked;
+use crate::ranks::{List, rank};
 use clearing::{clear, count_pairs};
 use orders::{Entry, Extent, Part, Refusal};
 use ranking::{Ranked, Side};
@@ -49,13 +49,19 @@ fn check_lists(
     reading.expect_kind(at, listing)
 }
 
-// Ranks a kind's row of entries, and compares the kind.
-fn check_row(reading: Reading<'_>, at: usize, codes: &[u32]) -> Result<usize, Refusal>
+// Ranks a kind's row of entries, and compares the kind. The lists are for what is ranked.
+fn check_row(
+    reading: Reading<'_>,
+    at: usize,
+    codes: &[u32],
+    buyers: &mut List,
+    sellers: &mut List,
+) -> Result<usize, Refusal>
     requires { length codes.now ≤ 2000 }
     ensures { result ≡ through reading.entry.sheet.now reading.entry.kind (row_fields (row_of codes.now)) at }
 {
-    let buyers = ranked(Side::Buyers, codes);
-    let sellers = ranked(Side::Sellers, codes);
+    rank(buyers, Side::Buyers, codes);
+    rank(sellers, Side::Sellers, codes);
     check_lists(reading, at, buyers.as_slice(), sellers.as_slice())
 }
 
@@ -65,10 +71,13 @@ fn check_kinds(extent: Extent, codes: &[u32], sheet: &[u8]) -> Result<(), Refusa
     requires there { extent.kinds * extent.members ≤ length codes.now }
     ensures { result ≡ verdict extent.kinds extent.members codes.now sheet.now }
 {
+    let mut buyers = List::new();
+    let mut sellers = List::new();
     let mut at = 0;
     let rows = codes.chunks_exact(usize::from(extent.members));
     for (kind, row) in (0..extent.kinds).zip(rows) {
-        at = check_row(Reading { sheet, kind }, at, row)?;
+        let reading = Reading { sheet, kind };
+        at = check_row(reading, at, row, &mut buyers, &mut sellers)?;
     }
     if at != sheet.len() {
         return Err(Refusal::GoesOn(at));

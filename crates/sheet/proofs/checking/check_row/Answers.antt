@@ -6,10 +6,10 @@ use Rattle.sheet.proofs.checking.check_row.Goals as goal
 
 pub check_lists-requires : goal.check_lists-requires
 check_lists-requires c =
-    ap₂ lists_fit (c.as_slice.ensures.value ∙ c.ranked-buyers.ensures) (c.as_slice-2.ensures.value ∙ c.ranked-sellers.ensures) ∙ row_fits c.args.codes.now c.requires
+    ap₂ lists_fit (c.as_slice.ensures.value ∙ c.rank.ensures) (c.as_slice-2.ensures.value ∙ c.rank-2.ensures) ∙ row_fits c.args.codes.now c.requires
 
 pub returns : goal.returns
 returns c =
     c.check_lists.ensures
     ∙ ap₂ (λ b s. through c.args.reading.sheet.now c.args.reading.kind (lists_fields b s) c.args.at)
-    (c.as_slice.ensures.value ∙ c.ranked-buyers.ensures) (c.as_slice-2.ensures.value ∙ c.ranked-sellers.ensures)
+    (c.as_slice.ensures.value ∙ c.rank.ensures) (c.as_slice-2.ensures.value ∙ c.rank-2.ensures)
