@@ -50,14 +50,31 @@ impl From<AllocError> for Fault {
     }
 }
 
-// Reads standard input to its end.
-fn read_all(rt: &HostRuntime) -> Result<Vec<u8>, Fault> {
-    let mut bytes = Vec::with_capacity(rt.alloc(), ROOM)?;
-    match rt.stdin().read_to_end(&mut bytes) {
-        Ok(_) => Ok(bytes),
-        Err(e) if e.kind() == io::ErrorKind::OutOfMemory => Err(AllocError.into()),
-        Err(e) => Err(e.into()),
+fn read_from(rt: &HostRuntime, memory: &mut [u8], start: usize) -> io::Result<usize> {
+    if start >= memory.len() {
+        return Ok(0);
     }
+    rt.stdin().read(&mut memory[start..])
+}
+
+// Reads standard input to its end, into memory that doubles. One read has all the memory that is left, so that no packet is
+// cut short while it fits, and what the system says while reading is told as the system's.
+fn read_all(rt: &HostRuntime) -> Result<Vec<u8>, Fault> {
+    let mut bytes = vec![in rt.alloc(); 0u8; ROOM]?;
+    let mut end = 0;
+    for _ in 0..u64::MAX {
+        if end == bytes.len() {
+            bytes.resize(end.saturating_mul(2), 0)?;
+        }
+        match read_from(rt, bytes.as_mut_slice(), end) {
+            Ok(0) => break,
+            Ok(count) => end = end.saturating_add(count),
+            Err(e) if e.kind() == io::ErrorKind::Interrupted => {}
+            Err(e) => return Err(e.into()),
+        }
+    }
+    bytes.truncate(end);
+    Ok(bytes)
 }
 
 // Holds the evening, prints it, and writes its files, if there is a directory for them. Answers whether all was written.
