@@ -7,7 +7,7 @@ use Rattle.std.proofs.lemmas.Option.{slice_get-get_or, slice_get_within}
 use Rattle.ranking.specs.declared.ranked.Side.{Side}
 use Rattle.ranking.specs.declared.ranked.Ranked.{Ranked}
 use Rattle.ranking.specs.Books.{Ordered}
-use Rattle.ranking.specs.Kinds.{book_list, book_number, book_says}
+use Rattle.ranking.specs.Kinds.{book_list, book_number}
 use Rattle.ranking.proofs.Bookings.{ltb_suc}
 
 get-set_other : {X : Type 0} (xs : List X) (i j : ℕ) (y : X) → (j ≡ i → ⊥) → slice_get (set xs i y) j ≡ slice_get xs j
@@ -38,10 +38,10 @@ module _ {A B : Type 0} (tell : Option B → A) (bs : List B) (k : ℕ) (b c : B
       ]
 
 -- what a book tells of a side, or of none
-abbrev pub Tells : {B : Type 0} → (Side → B → List Ranked) → (Side → B → ℕ) → (Side → B → Type 0) → Side → ℕ → Option B → Type 0
+abbrev pub Tells : {B : Type 0} → (Side → B → List Ranked) → (Side → B → ℕ) → (Side → Option B → Type 0) → Side → ℕ → Option B → Type 0
 Tells listed depth shape s n o =
     (n ≡ length (book_list listed s o)) × Ordered s (book_list listed s o)
-    × (4 ^ book_number (depth s) o ≤ 3 ^ book_number (depth s) o * (n + 1)) × book_says (shape s) o
+    × (4 ^ book_number (depth s) o ≤ 3 ^ book_number (depth s) o * (n + 1)) × shape s o
 
 -- books that are all new
 module _ {B : Type 0} (members : B → ℕ) (listed : Side → B → List Ranked) (m : ℕ) where

@@ -24,10 +24,6 @@ module _ {B : Type 0} where
   book_number number None = 0
   book_number number (Some b) = number b
 
-  abbrev pub book_says : (B → Type 0) → Option B → Type 0
-  book_says says None = Unit {0}
-  book_says says (Some b) = says b
-
   -- the ranked list of a kind's side
   abbrev pub kind_list : (Side → B → List Ranked) → ℕ → Side → Index B → List Ranked
   kind_list listed k s ix = book_list listed s (book_of k ix)
@@ -38,10 +34,6 @@ module _ {B : Type 0} where
 
   abbrev pub kind_depth : (Side → B → ℕ) → ℕ → Side → Index B → ℕ
   kind_depth depth k s ix = book_number (depth s) (book_of k ix)
-
-  -- what the book of a kind says, if there is one
-  abbrev pub kind_says : (Side → B → Type 0) → ℕ → Side → Index B → Type 0
-  kind_says shape k s ix = book_says (shape s) (book_of k ix)
 
   -- a kind and a member that there are, the member on neither side of the kind
   abbrev pub free : (B → ℕ) → (Side → B → List Ranked) → ℕ → ℕ → Index B → Bool

@@ -1,5 +1,5 @@
 // An order book of a kind, whatever holds its members: what an index asks of it.
-ghost use Rattle.std.specs.Prelude.{◌≡◌, ℕ, ◌+◌, ◌*◌, ◌^◌, ◌≤◌, List, [], length, IfOk, if◌then◌else◌, count_by};
+ghost use Rattle.std.specs.Prelude.{◌≡◌, ℕ, ◌+◌, ◌*◌, ◌^◌, ◌≤◌, List, [], length, IfOk, if◌then◌else◌, count_by, Some, None, Option};
 ghost use Rattle.ranking.specs.Kinds.{fresh_of};
 ghost use Rattle.ranking.specs.Books.{Ordered, ranked_as};
 ghost use Rattle.ranking.specs.declared.ranked.Side.{Side as OneSide};
@@ -23,8 +23,8 @@ pub trait OrderBook: Drop {
     // How many nodes stand one below the other at most.
     ghost depth: { OneSide → Self → ℕ };
 
-    // What else a book says of how it holds a side.
-    ghost shape: { OneSide → Self → Type 0 } = { λ _ _. Unit {0} };
+    // What else is so of how a side is held, by a book or where there is none.
+    ghost shape: { OneSide → Option Self → Type 0 } = { λ _ _. Unit {0} };
 
     // A book of so many members, with none of them on a side.
     fn new(heap: Global, count: u16) -> Result<Self, AllocError>
@@ -37,7 +37,7 @@ pub trait OrderBook: Drop {
         ensures count { result ≡ length (listed side self.now) }
         ensures ordered { Ordered side (listed side self.now) }
         ensures shallow { 4 ^ depth side self.now ≤ 3 ^ depth side self.now * (result + 1) }
-        ensures shaped { shape side self.now };
+        ensures shaped { shape side (Some self.now) };
 
     // Takes a member in on a side; not one that is on a side already, or that there is not.
     fn put(&mut self, side: Side, member: u16, cents: Cents) -> bool
@@ -60,4 +60,7 @@ pub trait OrderBook: Drop {
     // The member of a rank, with its number.
     fn member_at(&self, side: Side, rank: u16) -> Option<Ranked>
         ensures { result ≡ slice_get (listed side self.now) rank };
+
+    // Where there is no book, nothing has to be done for it.
+    ghost unshaped: { (s : OneSide) → shape s None };
 }

@@ -1,4 +1,3 @@
-mod AllKinds
 mod Booked
 mod Counting
 mod Growth

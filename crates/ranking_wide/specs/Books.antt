@@ -1,6 +1,5 @@
 -- What a kind's order book holds: for each side the ranked list, from its tree.
-use Rattle.std.specs.Prelude.{ℕ, ◌+◌, ◌*◌, ◌≤◌, List, [], ◌∷◌, map, length, vec_len}
-use Rattle.std.specs.List.{AllByRecursion}
+use Rattle.std.specs.Prelude.{ℕ, List, [], ◌∷◌, map, length, vec_len}
 use Rattle.ranking_wide.specs.declared.book.Book.{Book}
 use Rattle.ranking.specs.declared.ranked.Side.{Side}
 use Rattle.ranking.specs.declared.ranked.Ranked.{Ranked}
@@ -34,8 +33,3 @@ depth s b = way (keys_of (tree s b))
 unfoldable pub counts : Side → Book → List ℕ
 unfolding tree
 counts s b = map (λ l. length (part l)) (leaves_of (tree s b))
-
--- what a book says of a side's tree: its leaves have 32 keys at most, and there are not many of them
-pub record Narrow (s : Side) (b : Book) : Type 0 where
-  pub leaves : AllByRecursion (λ n. n ≤ 32) (counts s b)
-  pub root : 16 * length (counts s b) ≤ members b + 32

@@ -70,4 +70,6 @@ impl OrderBook for Book {
         };
         Ok(Book { nodes, roots })
     }
+
+    ghost unshaped = { λ _. tt };
 }

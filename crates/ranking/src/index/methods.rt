@@ -2,7 +2,7 @@
 ghost use Rattle.std.specs.Prelude.{◌≡◌, ℕ, ◌+◌, ◌*◌, ◌^◌, ◌<◌, ◌≤◌, [], length, IfOk, if◌then◌else◌, count_by, ◌≢◌, nat_lt};
 ghost use Rattle.ranking.specs.Books.{Ordered, ranked_as};
 ghost use Rattle.ranking.specs.declared.ranked.Side.{Side as OneSide};
-ghost use Rattle.ranking.specs.Kinds.{book_of, free, kind_depth, kind_list, kind_members, kind_says};
+ghost use Rattle.ranking.specs.Kinds.{book_of, free, kind_depth, kind_list, kind_members};
 ghost use Rattle.ranking.specs.Lists.{has, less};
 ghost use Rattle.ranking.specs.Ranks.{before, insert as inserted, own};
 ghost use Rattle.ranking.specs.Sides.{opposite};
@@ -39,7 +39,7 @@ impl<B: OrderBook> Index<B> {
         ensures count { result ≡ length (kind_list B.listed kind side self.now) }
         ensures ordered { Ordered side (kind_list B.listed kind side self.now) }
         ensures shallow { 4 ^ kind_depth B.depth kind side self.now ≤ 3 ^ kind_depth B.depth kind side self.now * (result + 1) }
-        ensures shaped { kind_says B.shape kind side self.now }
+        ensures shaped { B.shape side (book_of kind self.now) }
     {
         match self.book(kind) {
             Some(book) => book.len(side),

@@ -1,6 +1,8 @@
 // What a book is asked, and how members go in and out.
 ghost use Rattle.std.specs.Prelude.{◌≡◌};
-ghost use Rattle.ranking_wide.specs.Books.{depth, listed, members, Narrow};
+ghost use Rattle.ranking_wide.specs.Books.{depth, listed, members};
+ghost use Rattle.ranking_wide.specs.Indexes.{Narrow};
+ghost use Rattle.std.proofs.Common.{rules};
 ghost use Rattle.ranking_wide.specs.Sound.{entry_on};
 
 use crate::book::Book;
@@ -84,4 +86,6 @@ impl OrderBook for Book {
         let entries = vec![in heap; Entry::Nothing; count as usize]?;
         Ok(Book { trees, entries })
     }
+
+    ghost unshaped = { λ s. record { leaves = tt; root = Prim.search rules } };
 }

@@ -14,5 +14,5 @@ pub returns-in-None : goal.returns-in-None
 returns-in-None g c =
     let b = g.B.OrderBook in
     let t = subst (λ (o : Option g.row.B.Denot). Tells b.listed b.depth b.shape c.args.side 0 o)
-    c.in-None.ensures (refl, tt, omega arith, tt) in
+    c.in-None.ensures (refl, tt, omega arith, g.met.B.OrderBook.unshaped c.args.side) in
     record { count = t.0; ordered = t.1; shallow = t.2; shaped = t.3 }
