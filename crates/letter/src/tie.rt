@@ -1,5 +1,5 @@
 // The word on a tie, and the byte that stands for it.
-ghost use Rattle.std.specs.Prelude.{◌≡◌};
+ghost use Rattle.std.specs.Prelude.{◌≡◌, ◌++◌, Some, codes, decimal};
 ghost use Rattle.std.specs.Option.{ok_or};
 ghost use Rattle.letter.specs.Lines.{tie_byte, tie_in};
 
@@ -20,6 +20,8 @@ pub enum Tie {
 pub struct UnknownTie(pub u8);
 
 impl fmt::Display for UnknownTie {
+    ghost output = { λ tie. Some (codes "no word on a tie has the byte " ++ decimal tie.0) };
+
     fn fmt<W: fmt::Write>(&self, f: &mut fmt::Formatter<W>) -> fmt::Result {
         write!(f, "no word on a tie has the byte {}", self.0)
     }

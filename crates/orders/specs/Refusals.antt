@@ -1,7 +1,7 @@
 -- Each refusal is made known by a number, which says what is wrong, and a place, which says where: in a message the byte
 -- at which the wrong field begins (or the length, if that is wrong), in an opening the member or the part of memory,
 -- on a sheet the kind and its field, or the byte at which it ends or goes on, in a letter the entry.
-use Rattle.std.specs.Prelude.{ℕ, ◌+◌, ◌*◌}
+use Rattle.std.specs.Prelude.{ℕ, ◌+◌, ◌*◌, List, ◌++◌, codes, decimal}
 use Rattle.orders.specs.declared.refusal.Field.{Field}
 use Rattle.orders.specs.declared.refusal.Field.TheVariants.{Pairs, Trades, BuyersPrice, SellersPrice, BuyersCount, BuyersRow, SellersCount, SellersRow}
 use Rattle.orders.specs.declared.refusal.Part.{Part}
@@ -70,3 +70,7 @@ place (Ends i) = i
 place (GoesOn i) = i
 place (NotByRule i) = i
 place Memory = 0
+
+-- how a refusal is printed
+abbrev pub refusal_text : Refusal → List ℕ
+refusal_text r = codes "refused " ++ decimal (number r) ++ codes " at " ++ decimal (place r)

@@ -1,5 +1,5 @@
 // What a member has in a kind: nothing, a bid or an ask.
-ghost use Rattle.std.specs.Prelude.{◌≡◌};
+ghost use Rattle.std.specs.Prelude.{◌≡◌, ◌++◌, Some, codes, decimal};
 ghost use Rattle.orders.specs.Entries.{entry_of, bid_in, Encodes, Decodes};
 
 use crate::money::Cents;
@@ -22,6 +22,8 @@ pub enum Entry {
 pub struct UnknownCode(pub u32);
 
 impl fmt::Display for UnknownCode {
+    ghost output = { λ code. Some (codes "no entry has the number " ++ decimal code.0) };
+
     fn fmt<W: fmt::Write>(&self, f: &mut fmt::Formatter<W>) -> fmt::Result {
         write!(f, "no entry has the number {}", self.0)
     }
@@ -29,7 +31,7 @@ impl fmt::Display for UnknownCode {
 
 impl Error for UnknownCode {}
 
-// The entry as one number, sort × 2^24 + cents; none where the cents are out of range.
+// The entry as one number, sort × 2^24 + cents; refused where the cents are out of range.
 impl TryFrom<Entry> for u32 {
     type Error = Refusal;
 
