@@ -1,5 +1,5 @@
 -- A line that was written part by part, and a letter whose head was written last.
-use Rattle.std.proofs.Common.{◌≡◌, ℕ, ◌+◌, ◌*◌, ◌/◌, ◌%◌, ◌≤◌, List, [], ◌∷◌, ◌++◌, length, get_or, take, drop, Option, sym, refl, ap, ◌∙◌, arith}
+use Rattle.std.proofs.Common.{◌≡◌, ℕ, ◌+◌, ◌*◌, ◌/◌, ◌%◌, ◌≤◌, List, [], ◌∷◌, ◌++◌, length, get_or, take, drop, Some, None, Option, sym, refl, ap, ◌∙◌, arith}
 use Rattle.std.proofs.lemmas.List.{length-take, length-append, append_assoc, drop_at}
 use Rattle.orders.specs.declared.money.HalfCents.{HalfCents}
 use Rattle.sheet.specs.Words.{bytes2, bytes4}
@@ -8,6 +8,7 @@ use Rattle.sheet.proofs.Written.{Wrote, wrote_then, written_then, written_none}
 use Rattle.letter.specs.declared.line.Line.{Line}
 use Rattle.letter.specs.declared.line.Pair.{Pair}
 use Rattle.std.specs.List.{flat_map}
+use Rattle.std.specs.Option.{option_to_list}
 use Rattle.std.proofs.lemmas.List.Concat.{flat_map-append}
 use Rattle.letter.proofs.Spelling.{length_line}
 use Rattle.letter.specs.Lines.{entry_bytes, trade_bytes, pair_bytes, tie_byte, line_bytes, letter_bytes}
@@ -86,6 +87,10 @@ head_last head body old n e h =
     ∙ ap (λ r. head ++ r) (drop_at (take n old) (body ++ drop (n + length body) old) n (omega (arith, length-take n old)))
     ∙ sym (append_assoc head body (drop (n + length body) old))
     ∙ ap (λ k. (head ++ body) ++ drop k old) (omega (arith, e, length-append head body))
+
+pub at_most_one : {A : Type 0} (o : Option A) → length (option_to_list o) ≤ 1
+at_most_one None = omega arith
+at_most_one (Some x) = omega arith
 
 -- a letter: its lines, and then its head
 pub wrote_letter : (member lines : ℕ) (ls : List Line) (two old mid new : List ℕ) → lines ≡ length ls → 3 + 28 * lines ≤ length old →

@@ -3,7 +3,7 @@ use crate::tie::Tie;
 use orders::{Cents, HalfCents};
 use ranking::Side;
 
-// The bid and the ask of a rank.
+// The bid and the ask of a rank, 0 where there is none.
 #[derive(Clone, Copy, Debug, PartialEq, Eq)]
 pub struct Pair {
     pub bid: Cents,

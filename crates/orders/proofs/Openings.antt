@@ -74,6 +74,9 @@ opens K M fund h e =
       fits = fits;
     }
 
+pub opening_fits : (K M fund : ℕ) (h : Held) → None ≡ opening K M fund h → Fits K M h
+opening_fits K M fund h e = (opens K M fund h e).fits
+
 -- memory that is long enough lacks nothing
 pub lacks_nothing : (K M : ℕ) (h : Held) → Fits K M h → lacking K M h ≡ None
 lacks_nothing K M h f =

@@ -8,7 +8,7 @@ use Rattle.std.proofs.lemmas.Bool.{lt-ltb}
 use Rattle.std.proofs.lemmas.Bool.Decides.{nat_tests}
 use Rattle.ranking.specs.declared.ranked.Side.{Side}
 use Rattle.ranking.specs.declared.ranked.Side.TheVariants.{Buyers, Sellers}
-use Rattle.ranking_wide.specs.Keys.{ranked_of, worth}
+use Rattle.ranking_wide.specs.Keys.{key_of, ranked_of, worth}
 use Rattle.ranking.specs.Books.{Ordered}
 use Rattle.ranking_wide.specs.Leaves.{Ascending, placed}
 use Rattle.ranking.specs.Lists.{has, less}
@@ -20,6 +20,9 @@ worth_back Sellers c p = refl
 
 upper_below : (k : ℕ) → k < 2 ^ 48 → k / 65536 < 2 ^ 32
 upper_below k p = div_below k 65536 (2 ^ 32) (omega arith) p
+
+pub ranked_back : (s : Side) (k : ℕ) → k < 2 ^ 48 → key_of s (ranked_of s k) ≡ k
+ranked_back s k p = ap (λ c. c * 65536 + k % 65536) (worth_back s (k / 65536) (upper_below k p)) ∙ div-add-mod' k 65536
 
 pub before_keys : (s : Side) (j k : ℕ) → j < 2 ^ 48 → k < 2 ^ 48 → before s own (ranked_of s j) (ranked_of s k) ≡ ltb j k
 before_keys s j k p q =

@@ -1,5 +1,5 @@
 -- How many bytes a sheet takes, and that its numbers fit their fields.
-use Rattle.std.proofs.Common.{◌≡◌, ℕ, zero, suc, ◌+◌, ◌-◌, ◌*◌, ◌<◌, ◌≤◌, true, cond, ◌&&◌, eqb, ltb, leb, List, [], ◌∷◌, ◌++◌, length, take, drop, Some, None, Option, unwrap_or, sym, ap, ◌∙◌, le_refl, suc-mul, mul-le-mul, arith}
+use Rattle.std.proofs.Common.{◌≡◌, ℕ, zero, suc, ◌+◌, ◌-◌, ◌*◌, ◌<◌, ◌≤◌, true, cond, ◌&&◌, eqb, ltb, leb, List, [], ◌∷◌, ◌++◌, length, take, drop, Some, None, Option, unwrap_or, sym, refl, ap, ◌∙◌, le_refl, suc-mul, mul-le-mul, arith}
 use Rattle.std.specs.List.{AllByRecursion}
 use Rattle.std.proofs.lemmas.List.{length-append, length-take, length-map, append-nil, append_assoc}
 use Rattle.std.proofs.lemmas.Bool.{cond_both, cond-true}
@@ -19,7 +19,7 @@ use Rattle.clearing.proofs.Placing.{all_insert, length_insert}
 use Rattle.sheet.specs.Sheets.{first_ranks, kind_sheet, sheet_of_kind, sheet_from, sheet_of}
 use Rattle.sheet.specs.Statements.{Size, AlwaysWritable}
 use Rattle.sheet.specs.Writing.{kind_length, writable, written_at}
-use Rattle.sheet.proofs.Written.{length_kind, written_then}
+use Rattle.sheet.proofs.Written.{length_kind, written_none, written_then}
 
 -- each entry stands on one side at most
 
@@ -181,6 +181,10 @@ sheet_more M codes (suc n) k =
     ∙ ap (λ t. sheet_of_kind (kind_row M codes k) ++ t) (sheet_more M codes n (suc k))
     ∙ sym (append_assoc (sheet_of_kind (kind_row M codes k)) (sheet_from M codes n (suc k)) (sheet_of_kind (kind_row M codes (suc k + n))))
     ∙ ap (λ (i : ℕ). sheet_from M codes (suc n) k ++ sheet_of_kind (kind_row M codes i)) (omega arith)
+
+pub sheet_none : (M : ℕ) (codes old : List ℕ) → (length (sheet_of 0 M codes) ≡ 0) × (written_at 0 (sheet_of 0 M codes) old ≡ old)
+unfolding sheet_from
+sheet_none M codes old = (refl, written_none 0 old)
 
 pub sheet_of_more : (M : ℕ) (codes : List ℕ) (k : ℕ) →
     sheet_of (k + 1) M codes ≡ sheet_of k M codes ++ sheet_of_kind (kind_row M codes k)

@@ -43,6 +43,10 @@ four n h =
     let top : n / 16777216 % 256 ≡ n / 16777216 = mod-eq_of_lt (shr_below n 8 24 h) in
     digits n (n / 256) (n / 65536) (n / 16777216) (n % 256) (n / 256 % 256) (n / 65536 % 256) (n / 16777216 % 256) low next high top
 
+pub word2_bytes : (n : ℕ) (rest : List ℕ) → n < 65536 → word2 (bytes2 n ++ rest) 0 ≡ n
+unfolding bytes2
+word2_bytes n rest h = two n h
+
 pub word4_bytes : (n : ℕ) (rest : List ℕ) → n < 4294967296 → word4 (bytes4 n ++ rest) 0 ≡ n
 unfolding bytes4
 word4_bytes n rest h = four n h

@@ -1,7 +1,7 @@
 -- What is written into lent bytes, piece by piece.
 use Rattle.std.proofs.Common.{◌≡◌, ℕ, ◌+◌, ◌-◌, ◌*◌, ◌/◌, ◌%◌, ◌≤◌, true, List, [], ◌∷◌, ◌++◌, length, take, drop, sym, refl, ap, ◌∙◌, subst, add-zero, arith}
 use borrow.Rule.Slice.PartMut.{put_mid}
-use Rattle.std.proofs.lemmas.List.{append_assoc, append-nil, length-append, length-take, take_at, drop_at, drop-drop, take-append-drop, flat_map_more}
+use Rattle.std.proofs.lemmas.List.{append_assoc, append-nil, length-append, length-take, length-drop, take_at, drop_at, drop-drop, take-append-drop, flat_map_more}
 use Rattle.std.proofs.lemmas.Bool.Decides.{nat_tests}
 use Rattle.ranking.specs.declared.ranked.Ranked.{Ranked}
 use Rattle.clearing.specs.declared.outcome.Outcome.{Outcome}
@@ -17,6 +17,17 @@ written_part at n old part bytes e l =
     ap (λ p. take at old ++ (p ++ drop ((at + n) - at) (drop at old))) e
     ∙ ap (λ d. take at old ++ (bytes ++ d)) (drop-drop ((at + n) - at) at old)
     ∙ ap (λ (k : ℕ). take at old ++ (bytes ++ drop k old)) (omega arith)
+
+pub length_written : (at : ℕ) (bytes old : List ℕ) → at + length bytes ≤ length old → length (written_at at bytes old) ≡ length old
+unfolding written_at
+length_written at bytes old h =
+    omega (
+      arith,
+      length-append (take at old) (bytes ++ drop (at + length bytes) old),
+      length-append bytes (drop (at + length bytes) old),
+      length-take at old,
+      length-drop (at + length bytes) old,
+    )
 
 -- nothing is written
 pub written_none : (at : ℕ) (old : List ℕ) → written_at at [] old ≡ old
